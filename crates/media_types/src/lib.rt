@@ -1,0 +1,24 @@
+//! The vocabulary of medialib: the numbers and names of a library, the lists that contracts see as
+//! lists, the counter of steps, and the two errors that any call may meet.
+//!
+//! This is the bottom crate. It hardly ever changes, and the crates of tables stand on it alone.
+#![tactic(auto)]
+
+mod decision;
+mod fault;
+mod hash;
+mod listed;
+mod new_file;
+mod numbers;
+mod steps;
+
+pub use decision::{Code, Decision};
+pub use fault::{Failed, NoMemory};
+pub use hash::{Hash64, KeyBytes, Sha, distance};
+pub use listed::{ByteList, CallList, DecisionList, FileList, HashList, Listed, SizeList};
+pub use new_file::NewFile;
+pub use numbers::{DecisionNo, DeskNo, FileNo, HashNo, KeyNo, ServiceNo, TagNo};
+pub use steps::Steps;
+
+#[cfg(test)]
+mod tests;
