@@ -6,7 +6,9 @@
 
 mod decision;
 mod fault;
+mod file_relations;
 mod hash;
+mod limits;
 mod listed;
 mod new_file;
 mod numbers;
@@ -14,7 +16,9 @@ mod steps;
 
 pub use decision::{Code, Decision};
 pub use fault::{Failed, NoMemory};
+pub use file_relations::FileRelations;
 pub use hash::{Hash64, KeyBytes, Sha, distance};
+pub use limits::{MAX_DECISIONS, MAX_FILES};
 pub use listed::{ByteList, CallList, DecisionList, FileList, HashList, Listed, SizeList};
 pub use new_file::NewFile;
 pub use numbers::{DecisionNo, DeskNo, FileNo, HashNo, KeyNo, ServiceNo, TagNo};

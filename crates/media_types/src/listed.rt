@@ -49,6 +49,15 @@ impl<T> Listed<T> {
         }
     }
 
+    /// The empty list, with memory taken for so many rows: that many pushes succeed.
+    pub fn with_room(alloc: Global, rows: usize) -> Result<Listed<T>, NoMemory>
+        ensures { IfOk result (λ list. list ≡ []) }
+    {
+        Ok(Listed {
+            rows: Vec::with_capacity(alloc, rows)?,
+        })
+    }
+
     /// The list that holds these rows.
     pub fn from_rows(rows: Vec<T>) -> Listed<T>
         ensures { result ≡ rows.items }
@@ -95,6 +104,15 @@ impl<T> Listed<T> {
 }
 
 impl<T: Copy> Listed<T> {
+    /// Puts all of the rows last, in order, or none.
+    pub fn push_all(&mut self, rows: &[T]) -> Result<(), NoMemory>
+        ensures ok { OnOk result (self.new ≡ self.old ++ rows.now) }
+        ensures err { OnErr result (self.new ≡ self.old) }
+    {
+        self.rows.extend_from_slice(rows)?;
+        Ok(())
+    }
+
     /// A list of the same rows.
     pub fn copied(&self, alloc: Global) -> Result<Listed<T>, NoMemory>
         ensures { IfOk result (λ list. list ≡ self.now) }

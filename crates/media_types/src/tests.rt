@@ -21,8 +21,10 @@ fn a_list_is_read_as_it_was_pushed(rt: HostRuntime) -> Result<(), Fail> {
     );
     let copy = files.copied(alloc)?;
     assert_eq!(rt; copy.as_slice(), files.as_slice());
-    let bytes = ByteList::from_rows([7, 8].to_vec(alloc)?);
-    assert_eq!(rt; bytes.as_slice(), [7, 8].as_slice());
+    let mut bytes = ByteList::from_rows([7, 8].to_vec(alloc)?);
+    bytes.push_all(&[9, 9])?;
+    assert_eq!(rt; bytes.as_slice(), [7, 8, 9, 9].as_slice());
+    assert!(rt; ByteList::with_room(alloc, 3)?.is_empty());
     Ok(())
 }
 
