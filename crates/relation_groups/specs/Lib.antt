@@ -1,0 +1,5 @@
+pub mod Kept
+pub mod Laws
+pub mod Numbers
+pub mod Relations
+pub mod Rows

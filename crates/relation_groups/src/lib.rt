@@ -1,0 +1,16 @@
+//! What the decisions of the duplicate filter make of the files: groups of duplicates with their kings,
+//! classes of alternates, and classes that are not related.
+#![tactic(auto)]
+
+mod groups;
+mod numbers;
+mod related;
+mod rows;
+mod theorems;
+
+pub use related::relations_of;
+pub use rows::worked_rows;
+pub use theorems::laws;
+
+#[cfg(test)]
+mod tests;

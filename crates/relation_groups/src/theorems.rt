@@ -1,0 +1,10 @@
+ghost use Rattle.std.specs.Prelude.{List};
+ghost use Rattle.media_types.specs.declared.decision.Decision.{Decision};
+ghost use Rattle.relation_groups.specs.Laws.{AreNamed, AreOfTwo, AreSound};
+ghost use Rattle.relation_groups.specs.Relations.{relations};
+
+/// What holds of the relations that any decisions make. The call does nothing.
+pub fn laws()
+    ensures sound { (ds : List Decision) → AreOfTwo ds → AreSound (relations ds) }
+    ensures named { (ds : List Decision) → AreOfTwo ds → AreNamed (relations ds) }
+{}
