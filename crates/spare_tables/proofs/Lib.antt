@@ -1,0 +1,4 @@
+pub mod Edits
+pub mod Members
+pub mod Seeks
+pub mod SortedKeys
