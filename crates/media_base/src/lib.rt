@@ -1,0 +1,33 @@
+//! What every part of medialib speaks of: commands, replies and refusals, and the objects of the
+//! outside, each with a form in memory.
+//!
+//! It gives out all of `media_types` again, so a crate above names this one alone.
+#![tactic(auto)]
+
+mod bytes_sink;
+mod bytes_source;
+mod command;
+mod gather;
+mod refusal;
+mod reply;
+mod sink;
+mod source;
+mod status;
+
+pub use bytes_sink::BytesSink;
+pub use bytes_source::BytesSource;
+pub use command::{Caller, Command};
+pub use gather::Gather;
+pub use media_types::{
+    ByteList, CallList, Code, Decision, DecisionList, DecisionNo, DeskNo, Failed, FileList, FileNo,
+    FileRelations, Hash64, HashList, HashNo, KeyBytes, KeyNo, Listed, MAX_DECISIONS, MAX_FILES,
+    NewFile, NoMemory, ServiceNo, Sha, SizeList, Steps, TagNo, distance,
+};
+pub use refusal::{FieldName, Refusal};
+pub use reply::{ImportStatus, Imported, Reply};
+pub use sink::{Sink, write_all};
+pub use source::Source;
+pub use status::Status;
+
+#[cfg(test)]
+mod tests;

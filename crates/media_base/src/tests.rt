@@ -1,0 +1,105 @@
+use super::*;
+use std::alloc::Global;
+use std::test::Fail;
+
+fn list<T: Copy>(alloc: Global, rows: &[T]) -> Result<Listed<T>, NoMemory> {
+    let mut list = Listed::new(alloc);
+    list.push_all(rows)?;
+    Ok(list)
+}
+
+// Cuts of 2 and 1, and a third call that fails.
+#[test]
+fn a_source_gives_what_it_was_told(rt: HostRuntime) -> Result<(), Fail> {
+    let alloc = rt.alloc();
+    let cuts = list(alloc, &[2, 1])?;
+    assert!(rt; cuts.as_slice().iter().all(|cut| 0 < *cut));
+    let mut source = BytesSource::new(list(alloc, b"abcdefgh")?, cuts, list(alloc, &[3])?);
+    let mut room = [0; 4];
+    let wanted = [
+        (Some(2), b"ab".as_slice()),
+        (Some(1), b"c".as_slice()),
+        (None, b"".as_slice()),
+        (Some(4), b"defg".as_slice()),
+        (Some(1), b"h".as_slice()),
+        (Some(0), b"".as_slice()),
+    ];
+    for (count, bytes) in wanted {
+        let given = source.read(&mut room).ok();
+        assert_eq!(rt; given, count);
+        assert!(rt; room.starts_with(bytes));
+    }
+    Ok(())
+}
+
+#[test]
+fn a_sink_takes_what_it_was_told(rt: HostRuntime) -> Result<(), Fail> {
+    let alloc = rt.alloc();
+    let mut sink = BytesSink::new(alloc, 5, list(alloc, &[2])?)?;
+    for (piece, count) in [
+        (b"abc".as_slice(), Some(3)),
+        (b"d".as_slice(), None),
+        (b"".as_slice(), Some(0)),
+        (b"def".as_slice(), Some(2)),
+        (b"g".as_slice(), None),
+    ] {
+        assert_eq!(rt; sink.write(piece).ok(), count);
+    }
+    assert_eq!(rt; sink.bytes().as_slice(), b"abcde".as_slice());
+    assert!(rt; write_all(b"x", &mut sink).is_err());
+    Ok(())
+}
+
+// Pieces of 1,000 bytes: four fit, and the fifth makes room by one write of 4,000.
+#[test]
+fn pieces_go_out_together(rt: HostRuntime) -> Result<(), Fail> {
+    let alloc = rt.alloc();
+    let mut sink = BytesSink::new(alloc, 20_000, list(alloc, &[2])?)?;
+    let mut gather = Gather::new();
+    let piece = [7; 1000];
+    for _ in 0..4 {
+        assert_eq!(rt; gather.put(&piece, &mut sink), Ok(()));
+    }
+    assert_eq!(rt; sink.bytes().len(), 0);
+    assert_eq!(rt;
+        gather.put_all(&[piece.as_slice(), b"ab".as_slice()], &mut sink),
+        Ok(())
+    );
+    assert_eq!(rt; sink.bytes().len(), 4000);
+    assert_eq!(rt; gather.flush(&mut sink), Err(Failed));
+    assert_eq!(rt; gather.flush(&mut sink), Ok(()));
+    assert_eq!(rt; gather.put(&[1; 5000], &mut sink), Ok(()));
+    assert_eq!(rt; sink.bytes().len(), 9000);
+    Ok(())
+}
+
+#[test]
+fn names(rt: HostRuntime) {
+    let fields = [
+        (FieldName::Do, "do"),
+        (FieldName::Sha256, "sha256"),
+        (FieldName::Hashes, "hashes"),
+        (FieldName::Size, "size"),
+        (FieldName::Width, "width"),
+        (FieldName::Height, "height"),
+        (FieldName::Code, "code"),
+        (FieldName::A, "a"),
+        (FieldName::B, "b"),
+        (FieldName::File, "file"),
+    ];
+    for (field, text) in fields {
+        assert_eq!(rt; field.text(), text);
+    }
+    let statuses = [
+        (Status::Done, 0),
+        (Status::Usage, 1),
+        (Status::ReadFault, 2),
+        (Status::WriteFault, 3),
+        (Status::NoMemory, 5),
+        (Status::InputTooLong, 6),
+    ];
+    for (status, number) in statuses {
+        assert_eq!(rt; status.number(), number);
+    }
+    assert_eq!(rt; Refusal::from(NoMemory), Refusal::NoMemory);
+}
