@@ -1,0 +1,52 @@
+-- The step's commands by what their tests say.
+use Rattle.std.proofs.Common.{◌≡◌, Bool, nat_lt, ◌==◌, ◌&&◌, not, if◌then◌else◌, [], ◌∷◌, ◌++◌, length, refl}
+use Rattle.media_types.specs.declared.decision.Decision.{Decision}
+use Rattle.media_types.specs.declared.limits.TheConstants.{MAX_DECISIONS}
+use Rattle.media_types.specs.declared.new_file.NewFile.{NewFile}
+use Rattle.media_types.specs.declared.numbers.FileNo.{FileNo}
+use Rattle.media_base.specs.declared.refusal.Refusal.TheVariants as refusals
+use Rattle.media_base.specs.declared.reply.ImportStatus.TheVariants as imports
+use Rattle.media_base.specs.declared.reply.Reply.TheVariants.{Imported, Decided, Relations}
+use Rattle.file_records.specs.Rows.{row_of}
+use Rattle.decision_book.specs.Standing as book
+use Rattle.relation_groups.specs.Relations.{relations_at}
+use Rattle.library_machine.specs.Records.{Records}
+use Rattle.library_machine.specs.Step.{Outcome, refused, has_file, decide, relations}
+
+-- a new file, where there is room or not
+abbrev pub import_by : Records → NewFile → Bool → Outcome
+import_by r file room =
+    if room then record {
+      records = record r { files = r.files ++ row_of file ∷ [] };
+      reply = Imported (record { file = record { 0 = length r.files }; status = imports.New });
+    }
+    else refused r refusals.FullFiles
+
+-- a decision, where both files are there or not, where they are one or not, where there is room or not
+abbrev pub decide_by : Records → Decision → Bool → Bool → Bool → Outcome
+decide_by r d there same room =
+    if not there then refused r refusals.UnknownFile
+    else if same then refused r refusals.SameFile
+    else if room then record {
+      records = record r { decisions = r.decisions ++ book.row_of d ∷ [] };
+      reply = Decided (record { 0 = length r.decisions });
+    }
+    else refused r refusals.FullDecisions
+
+pub decide_is : (r : Records) (d : Decision) → decide r d
+    ≡ decide_by r d (has_file r d.a && has_file r d.b) (d.a.0 == d.b.0) (nat_lt (length r.decisions) MAX_DECISIONS)
+unfolding decide
+decide_is r d = refl
+
+-- the relations of a file that is there or not
+abbrev pub relations_by : Records → FileNo → Bool → Outcome
+relations_by r file there =
+    if there then record {
+      records = r;
+      reply = Relations (relations_at (length r.files) (book.standing r.decisions) file);
+    }
+    else refused r refusals.UnknownFile
+
+pub relations_is : (r : Records) (file : FileNo) → relations r file ≡ relations_by r file (has_file r file)
+unfolding relations
+relations_is r file = refl

@@ -1,0 +1,4 @@
+pub mod Branches
+pub mod Causes
+pub mod Fitting
+pub mod Refusing

@@ -1,0 +1,40 @@
+-- What a library records, and nothing else. All that it tells is computed from these lists.
+use Rattle.std.specs.Prelude.{◌≢◌, ◌<◌, ◌≤◌, List, [], length, map, All}
+use Rattle.media_types.specs.declared.hash.Sha.{Sha}
+use Rattle.media_types.specs.declared.limits.TheConstants.{MAX_DECISIONS, MAX_FILES}
+use Rattle.media_types.specs.declared.numbers.FileNo.{FileNo}
+use Rattle.file_records.specs.declared.file_row.FileRow.{FileRow}
+use Rattle.decision_book.specs.declared.decision_row.DecisionRow.{DecisionRow}
+use Rattle.decision_book.specs.Standing.{decision_of}
+use Rattle.relation_groups.specs.Relations.{AreAmong}
+
+pub record Records : Type 0 where
+  -- in order of import
+  pub files : List FileRow
+  -- in order of recording
+  pub decisions : List DecisionRow
+
+abbrev pub no_records : Records
+no_records = record { files = []; decisions = [] }
+
+-- What records of every session are: within the limits, and each decision is of two files that are there.
+pub record Fits (r : Records) : Type 0 where
+  pub few_files : length r.files ≤ MAX_FILES
+  pub few_decisions : length r.decisions ≤ MAX_DECISIONS
+  pub among : AreAmong (length r.files) (map decision_of r.decisions)
+
+-- a file with this number is recorded
+abbrev pub IsThere : Records → FileNo → Type 0
+IsThere r file = file.0 < length r.files
+
+-- no file has this SHA-256
+abbrev pub IsNew : Records → Sha → Type 0
+IsNew r sha = All (λ file. file.sha ≢ sha) r.files
+
+-- there are as many files as a library holds
+abbrev pub IsFullOfFiles : Records → Type 0
+IsFullOfFiles r = MAX_FILES ≤ length r.files
+
+-- there are as many decisions as a library holds
+abbrev pub IsFullOfDecisions : Records → Type 0
+IsFullOfDecisions r = MAX_DECISIONS ≤ length r.decisions

@@ -1,0 +1,46 @@
+-- Words for small sessions.
+use Rattle.std.specs.Prelude.{ℕ, List, [], map, replicate}
+use Rattle.media_types.specs.declared.decision.Code.TheVariants.{Better}
+use Rattle.media_types.specs.declared.numbers.FileNo.{FileNo}
+use Rattle.media_base.specs.declared.command.Command.{Command}
+use Rattle.media_base.specs.declared.command.Command.TheVariants as commands
+use Rattle.media_base.specs.declared.reply.ImportStatus.{ImportStatus}
+use Rattle.media_base.specs.declared.reply.Reply.{Reply}
+use Rattle.media_base.specs.declared.reply.Reply.TheVariants as answers
+
+abbrev pub file : ℕ → FileNo
+file k = record { 0 = k }
+
+-- the import of a file whose SHA-256 is 32 times the byte k
+abbrev pub import_of : ℕ → Command
+import_of k = commands.Import (record {
+  sha = record { 0 = replicate 32 k };
+  hashes = [];
+  size = 7;
+  width = 3;
+  height = 2;
+})
+
+-- the decision that file a is better than file b
+abbrev pub better_than : ℕ → ℕ → Command
+better_than a b = commands.Decide (record { code = Better; a = file a; b = file b })
+
+-- the question how file k is related
+abbrev pub relations_of : ℕ → Command
+relations_of k = commands.Relations (file k)
+
+abbrev pub imported : ℕ → ImportStatus → Reply
+imported k status = answers.Imported (record { file = file k; status = status })
+
+-- the decision is recorded under number n
+abbrev pub decided : ℕ → Reply
+decided n = answers.Decided (record { 0 = n })
+
+-- the file's king and the members of its group, where no other group is related to it
+abbrev pub grouped : ℕ → List ℕ → Reply
+grouped king members = answers.Relations (record {
+  king = file king;
+  members = map file members;
+  alternates = [];
+  not_related = [];
+})

@@ -1,0 +1,30 @@
+ghost use Rattle.std.specs.Prelude.{◌≡◌, [], ◌∷◌};
+ghost use Rattle.media_base.specs.declared.refusal.Refusal.TheVariants.{UnknownFile, SameFile};
+ghost use Rattle.media_base.specs.declared.reply.ImportStatus.TheVariants.{New, Known};
+ghost use Rattle.media_base.specs.declared.reply.Reply.TheVariants.{Refused};
+ghost use Rattle.library_machine.specs.Records.{no_records};
+ghost use Rattle.library_machine.specs.Session.{replies};
+ghost use Rattle.library_machine.specs.Worked.{import_of, better_than, relations_of, imported, decided, grouped};
+
+/// Small sessions whose replies can be followed by hand. The call does nothing.
+#[tactic(auto, unfolding(crate::specs::Step::step, crate::specs::Step::import, crate::specs::Step::decide, crate::specs::Step::relations, relation_groups::specs::Relations::relations_at))]
+pub fn worked_rows()
+    ensures a_known_file_keeps_its_number { replies no_records (import_of 10 ∷ import_of 11 ∷ import_of 10 ∷ [])
+        ≡ imported 0 New ∷ imported 1 New ∷ imported 0 Known ∷ [] }
+
+    ensures two_files_and_a_decision { replies no_records (import_of 10 ∷ import_of 11 ∷ better_than 0 1 ∷ relations_of 1 ∷ [])
+        ≡ imported 0 New ∷ imported 1 New ∷ decided 0 ∷ grouped 0 (0 ∷ 1 ∷ []) ∷ [] }
+
+    ensures one_file_twice { replies no_records (import_of 10 ∷ better_than 0 0 ∷ [])
+        ≡ imported 0 New ∷ Refused SameFile ∷ [] }
+
+    // That the file isn't there is told before that it is named twice.
+    ensures no_such_file_twice { replies no_records (import_of 10 ∷ better_than 5 5 ∷ [])
+        ≡ imported 0 New ∷ Refused UnknownFile ∷ [] }
+    ensures no_such_file { replies no_records (import_of 10 ∷ relations_of 1 ∷ [])
+        ≡ imported 0 New ∷ Refused UnknownFile ∷ [] }
+
+    // The second decision finds the two files in one group already, and is recorded all the same.
+    ensures no_effect_and_a_number { replies no_records (import_of 10 ∷ import_of 11 ∷ better_than 0 1 ∷ better_than 0 1 ∷ relations_of 0 ∷ [])
+        ≡ imported 0 New ∷ imported 1 New ∷ decided 0 ∷ decided 1 ∷ grouped 0 (0 ∷ 1 ∷ []) ∷ [] }
+{}
