@@ -1,0 +1,134 @@
+-- What a request line asks, with the tests in their order: the first that fails names the refusal.
+use Rattle.std.specs.Prelude.{◌≡◌, ℕ, ◌^◌, ◌==◌, ◌⊎◌, List, [], codes, nat_lt, if◌then◌else◌, Option, Some, None, option_map, option_and_then, Result, Ok, Err, MatchResult}
+use Rattle.std.specs.Result.{result_ok}
+use Rattle.std.specs.Str.{is_utf8, bytes_eq}
+use Rattle.hex.specs.Hex.{decode_sized}
+use Rattle.serde_json.specs.Data.{Data, Items, no_items, item}
+use Rattle.serde_json.specs.Find.{get, as_str, as_number, as_u64, as_array}
+use Rattle.serde_json.specs.Read.{read}
+use Rattle.media_types.specs.declared.decision.Code.{Code}
+use Rattle.media_types.specs.declared.decision.Code.TheVariants as codes_of
+use Rattle.media_types.specs.declared.hash.Hash64.{Hash64}
+use Rattle.media_types.specs.declared.hash.Sha.{Sha}
+use Rattle.media_base.specs.declared.command.Command.{Command}
+use Rattle.media_base.specs.declared.command.Command.TheVariants as commands
+use Rattle.media_base.specs.declared.refusal.FieldName.{FieldName}
+use Rattle.media_base.specs.declared.refusal.FieldName.TheVariants as fields
+use Rattle.media_base.specs.declared.refusal.Refusal.{Refusal}
+use Rattle.media_base.specs.declared.refusal.Refusal.TheVariants as refusals
+use Rattle.media_base.specs.Names.{field_text}
+
+-- the second step, if the first gave a value
+infixl 10 ◌>>=◌
+abbrev pub ◌>>=◌ : {A B : Type 0} → Result A Refusal → (A → Result B Refusal) → Result B Refusal
+Ok x >>= f = f x
+Err e >>= f = Err e
+
+-- What a function returned is what reading gives, unless memory ran out.
+abbrev pub Gives : {A : Type 0} → Result A Refusal → Result A Refusal → Type 0
+Gives result reading = MatchResult result (λ x. reading ≡ Ok x) (λ e. (e ≡ refusals.NoMemory) ⊎ (reading ≡ Err e))
+
+-- ---- a line, and the fields of its object
+
+-- the JSON value that the line reads as
+abbrev pub line_value : List ℕ → Option Data
+line_value line = if is_utf8 line then read line else None
+
+-- the field, where the value is an object and has it
+abbrev pub field_of : FieldName → Data → Option Data
+field_of name value = get (field_text name) value
+
+-- what the field says, or that the request is none because of it
+abbrev pub formed : {A : Type 0} → FieldName → Option A → Result A Refusal
+formed name None = Err (refusals.NotARequest name)
+formed name (Some x) = Ok x
+
+-- the field's text, where it is one
+abbrev pub text_of : FieldName → Data → Option (List ℕ)
+text_of name value = option_and_then as_str (field_of name value)
+
+-- the field's whole number, where it is one
+abbrev pub number_of : FieldName → Data → Option ℕ
+number_of name value = option_and_then as_u64 (option_and_then as_number (field_of name value))
+
+abbrev pub below : ℕ → ℕ → Option ℕ
+below limit n = if nat_lt n limit then Some n else None
+
+-- a whole number below the limit
+unfoldable pub whole_number_at : FieldName → ℕ → Data → Result ℕ Refusal
+whole_number_at name limit value = formed name (option_and_then (below limit) (number_of name value))
+
+-- ---- fields of one form each
+
+abbrev pub sha_with : List ℕ → Sha
+sha_with bytes = record { 0 = bytes }
+
+-- the 32 bytes of 64 hexadecimal digits
+abbrev pub sha_of : List ℕ → Option Sha
+sha_of text = option_map sha_with (result_ok (decode_sized text 32))
+
+unfoldable pub sha_at : Data → Result Sha Refusal
+sha_at value = formed fields.Sha256 (option_and_then sha_of (text_of fields.Sha256 value))
+
+abbrev pub no_hashes_of : Items → Option (List Hash64)
+no_hashes_of no_items = Some []
+no_hashes_of (item value values) = None
+
+abbrev pub hashes_of : Option Data → Option (List Hash64)
+hashes_of None = Some []
+hashes_of (Some value) = option_and_then no_hashes_of (as_array value)
+
+-- Perceptual hashes aren't taken yet: the list is missing or empty.
+unfoldable pub hashes_at : Data → Result (List Hash64) Refusal
+hashes_at value = formed fields.Hashes (hashes_of (field_of fields.Hashes value))
+
+-- Of the codes of decisions, 4 is taken so far.
+abbrev pub code_of : ℕ → Option Code
+code_of number = if number == 4 then Some codes_of.Better else None
+
+unfoldable pub code_at : Data → Result Code Refusal
+code_at value = formed fields.Code (option_and_then code_of (number_of fields.Code value))
+
+-- ---- commands
+
+unfoldable pub import_at : Data → Result Command Refusal
+import_at value = do
+  sha ← sha_at value
+  hashes ← hashes_at value
+  size ← whole_number_at fields.Size (2 ^ 64) value
+  width ← whole_number_at fields.Width (2 ^ 32) value
+  height ← whole_number_at fields.Height (2 ^ 32) value
+  Ok (commands.Import (record { sha = sha; hashes = hashes; size = size; width = width; height = height }))
+
+unfoldable pub decide_at : Data → Result Command Refusal
+decide_at value = do
+  code ← code_at value
+  a ← whole_number_at fields.A (2 ^ 32) value
+  b ← whole_number_at fields.B (2 ^ 32) value
+  Ok (commands.Decide (record { code = code; a = record { 0 = a }; b = record { 0 = b } }))
+
+unfoldable pub relations_at : Data → Result Command Refusal
+relations_at value = do
+  file ← whole_number_at fields.File (2 ^ 32) value
+  Ok (commands.Relations (record { 0 = file }))
+
+-- the command of this name
+unfoldable pub named_command : List ℕ → Data → Result Command Refusal
+named_command name value =
+    if bytes_eq name (codes "import") then import_at value
+    else if bytes_eq name (codes "decide") then decide_at value
+    else if bytes_eq name (codes "relations") then relations_at value
+    else Err (refusals.NotARequest fields.Do)
+
+unfoldable pub value_command : Data → Result Command Refusal
+value_command value = do
+  name ← formed fields.Do (text_of fields.Do value)
+  named_command name value
+
+abbrev pub read_command : Option Data → Result Command Refusal
+read_command None = Err refusals.NotJson
+read_command (Some value) = value_command value
+
+-- the command that the line asks, or why it is refused
+unfoldable pub line_command : List ℕ → Result Command Refusal
+line_command line = read_command (line_value line)

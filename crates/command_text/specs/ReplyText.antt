@@ -1,0 +1,85 @@
+-- The text of each reply, byte for byte.
+use Rattle.std.specs.Prelude.{ℕ, List, [], ◌∷◌, ◌++◌, codes, decimal}
+use Rattle.std.specs.List.{flat_map}
+use Rattle.media_types.specs.declared.file_relations.FileRelations.{FileRelations}
+use Rattle.media_types.specs.declared.numbers.DecisionNo.{DecisionNo}
+use Rattle.media_types.specs.declared.numbers.FileNo.{FileNo}
+use Rattle.media_base.specs.declared.reply.Imported.{Imported}
+use Rattle.media_base.specs.declared.reply.Reply.{Reply}
+use Rattle.media_base.specs.declared.reply.Reply.TheVariants as replies
+use Rattle.media_base.specs.declared.refusal.Refusal.{Refusal}
+use Rattle.media_base.specs.declared.refusal.Refusal.TheVariants as refusals
+use Rattle.media_base.specs.Names.{field_text, import_number}
+
+unfoldable pub imported_text : Imported → List ℕ
+imported_text found = codes "{\"file\":" ++ (decimal found.file.0 ++ (codes ",\"status\":" ++ (decimal (import_number found.status) ++ codes "}")))
+
+unfoldable pub decided_text : DecisionNo → List ℕ
+decided_text decision = codes "{\"decision\":" ++ (decimal decision.0 ++ codes "}")
+
+-- ---- relations
+
+-- a file behind another one
+abbrev pub next_text : FileNo → List ℕ
+next_text file = codes "," ++ decimal file.0
+
+unfoldable pub following_text : List FileNo → List ℕ
+following_text files = flat_map next_text files
+
+-- files with a comma between each two
+unfoldable pub files_text : List FileNo → List ℕ
+files_text [] = []
+files_text (file ∷ files) = decimal file.0 ++ following_text files
+
+-- a list and its name
+unfoldable pub label_text : List ℕ → List ℕ
+label_text name = codes ",\"" ++ (name ++ codes "\":[")
+
+unfoldable pub closed_text : List FileNo → List ℕ
+closed_text files = files_text files ++ codes "]"
+
+unfoldable pub list_text : List ℕ → List FileNo → List ℕ
+list_text name files = label_text name ++ closed_text files
+
+unfoldable pub king_text : FileNo → List ℕ
+king_text king = codes "{\"king\":" ++ decimal king.0
+
+unfoldable pub lists_text : FileRelations → List ℕ
+lists_text relations = list_text (codes "members") relations.members ++ (list_text (codes "alternates") relations.alternates ++ list_text (codes "not_related") relations.not_related)
+
+unfoldable pub others_text : FileRelations → List ℕ
+others_text relations = lists_text relations ++ codes "}"
+
+unfoldable pub relations_text : FileRelations → List ℕ
+relations_text relations = king_text relations.king ++ others_text relations
+
+-- ---- refusals
+
+abbrev pub refusal_name : Refusal → List ℕ
+refusal_name refusals.NotJson = codes "not_json"
+refusal_name (refusals.NotARequest field) = codes "not_a_request"
+refusal_name refusals.UnknownFile = codes "unknown_file"
+refusal_name refusals.SameFile = codes "same_file"
+refusal_name refusals.FullFiles = codes "full_files"
+refusal_name refusals.FullDecisions = codes "full_decisions"
+refusal_name refusals.NoMemory = codes "no_memory"
+
+-- the field that made it no request
+abbrev pub blamed_text : Refusal → List ℕ
+blamed_text (refusals.NotARequest field) = codes "\",\"field\":\"" ++ field_text field
+blamed_text _ = []
+
+unfoldable pub refused_text : Refusal → List ℕ
+refused_text refusal = codes "{\"error\":\"" ++ (refusal_name refusal ++ (blamed_text refusal ++ codes "\"}"))
+
+-- ---- replies
+
+unfoldable pub reply_text : Reply → List ℕ
+reply_text (replies.Imported found) = imported_text found
+reply_text (replies.Decided decision) = decided_text decision
+reply_text (replies.Relations relations) = relations_text relations
+reply_text (replies.Refused refusal) = refused_text refusal
+
+-- with its line feed
+abbrev pub reply_line : Reply → List ℕ
+reply_line reply = reply_text reply ++ 10 ∷ []

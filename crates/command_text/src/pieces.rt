@@ -1,0 +1,115 @@
+//! The fixed parts of replies, as pieces that stand one behind the other.
+
+ghost use Rattle.std.specs.Prelude.{◌≡◌, ◌++◌, ◌+◌, ◌-◌, ◌^◌, min, length, decimal};
+ghost use Rattle.std.specs.List.{flat_map};
+ghost use Rattle.media_base.specs.Names.{import_number};
+ghost use Rattle.command_text.specs.ReplyText.{imported_text, decided_text, king_text, label_text, next_text, refusal_name, blamed_text, refused_text};
+
+use itoa::Buffer;
+use media_base::{DecisionNo, FileNo, ImportStatus, Imported, Refusal};
+
+#[tactic(auto, unfolding(crate::specs::ReplyText::imported_text))]
+pub fn imported_pieces<'a>(found: &Imported, digits: &'a mut Buffer) -> [&'a [u8]; 5]
+    ensures { flat_map (λ piece. piece.now) result ≡ imported_text found.now }
+{
+    let status: &'a [u8] = status_digit(found.status);
+    [
+        b"{\"file\":",
+        digits.format(found.file.0).as_bytes(),
+        b",\"status\":",
+        status,
+        b"}",
+    ]
+}
+
+#[tactic(auto, using(std::proofs::lemmas::Fmt::decimal_digit))]
+fn status_digit(status: ImportStatus) -> &'static [u8]
+    ensures { result.now ≡ decimal (import_number status) }
+{
+    match status {
+        ImportStatus::New => b"1",
+        ImportStatus::Known => b"2",
+    }
+}
+
+#[tactic(auto, unfolding(crate::specs::ReplyText::decided_text))]
+pub fn decided_pieces(decision: DecisionNo, digits: &mut Buffer) -> [&[u8]; 3]
+    ensures { flat_map (λ piece. piece.now) result ≡ decided_text decision }
+{
+    [
+        b"{\"decision\":",
+        digits.format(decision.0).as_bytes(),
+        b"}",
+    ]
+}
+
+#[tactic(auto, unfolding(crate::specs::ReplyText::king_text))]
+pub fn king_pieces(king: FileNo, digits: &mut Buffer) -> [&[u8]; 2]
+    ensures { flat_map (λ piece. piece.now) result ≡ king_text king }
+{
+    [b"{\"king\":", digits.format(king.0).as_bytes()]
+}
+
+/// A file behind another one.
+pub fn following_pieces(file: FileNo, digits: &mut Buffer) -> [&[u8]; 2]
+    ensures { flat_map (λ piece. piece.now) result ≡ next_text file }
+{
+    [b",", digits.format(file.0).as_bytes()]
+}
+
+/// What stands before the files of a list.
+#[tactic(auto, unfolding(crate::specs::ReplyText::label_text))]
+pub fn label_pieces(name: &str) -> [&[u8]; 3]
+    ensures { flat_map (λ piece. piece.now) result ≡ label_text name.now }
+{
+    [b",\"", name.as_bytes(), b"\":["]
+}
+
+#[tactic(auto, unfolding(crate::specs::ReplyText::refused_text))]
+pub fn refused_pieces(refusal: Refusal) -> [&'static [u8]; 5]
+    ensures { flat_map (λ piece. piece.now) result ≡ refused_text refusal }
+{
+    let (label, field) = blamed(refusal);
+    [
+        b"{\"error\":\"",
+        name_of(refusal).as_bytes(),
+        label.as_bytes(),
+        field.as_bytes(),
+        b"\"}",
+    ]
+}
+
+fn name_of(refusal: Refusal) -> &'static str
+    ensures { result.now ≡ refusal_name refusal }
+{
+    match refusal {
+        Refusal::NotJson => "not_json",
+        Refusal::NotARequest(_) => "not_a_request",
+        Refusal::UnknownFile => "unknown_file",
+        Refusal::SameFile => "same_file",
+        Refusal::FullFiles => "full_files",
+        Refusal::FullDecisions => "full_decisions",
+        Refusal::NoMemory => "no_memory",
+    }
+}
+
+// The label of the field that made it no request, and the field's name.
+fn blamed(refusal: Refusal) -> (&'static str, &'static str)
+    ensures { blamed_text refusal ≡ result.0.now ++ result.1.now }
+{
+    match refusal {
+        Refusal::NotARequest(field) => ("\",\"field\":\"", field.text()),
+        _ => ("", ""),
+    }
+}
+
+/// The length of the pieces in bytes, up to u64's last value.
+pub fn pieces_len(pieces: &[&[u8]]) -> u64
+    ensures { result ≡ min (length (flat_map (λ piece. piece.now) pieces.now)) (2 ^ 64 - 1) }
+{
+    let mut len = 0u64;
+    for piece in pieces {
+        len = len.saturating_add(piece.len() as u64);
+    }
+    len
+}

@@ -1,0 +1,82 @@
+ghost use Rattle.std.specs.Prelude.{◌≡◌, ◌-◌, ◌^◌, min, length};
+ghost use Rattle.std.specs.List.{flat_map};
+ghost use Rattle.command_text.specs.ReplyText.{following_text, files_text, list_text, others_text, relations_text, reply_text};
+
+use crate::named_list::{NamedList, named_lists};
+use crate::pieces::{
+    decided_pieces, following_pieces, imported_pieces, king_pieces, label_pieces, pieces_len,
+    refused_pieces,
+};
+use itoa::Buffer;
+use media_base::{FileNo, FileRelations, Reply};
+
+/// The length in bytes of the reply's text, up to u64's last value. It takes no memory.
+#[tactic(auto, unfolding(crate::specs::ReplyText::reply_text))]
+pub fn reply_len(reply: &Reply) -> u64
+    ensures { result ≡ min (length (reply_text reply.now)) (2 ^ 64 - 1) }
+{
+    let mut digits = Buffer::new();
+    match reply {
+        Reply::Imported(found) => pieces_len(&imported_pieces(found, &mut digits)),
+        Reply::Decided(decision) => pieces_len(&decided_pieces(*decision, &mut digits)),
+        Reply::Relations(relations) => relations_len(relations),
+        Reply::Refused(refusal) => pieces_len(&refused_pieces(*refusal)),
+    }
+}
+
+#[tactic(auto, unfolding(crate::specs::ReplyText::relations_text))]
+fn relations_len(relations: &FileRelations) -> u64
+    ensures { result ≡ min (length (relations_text relations.now)) (2 ^ 64 - 1) }
+{
+    let mut digits = Buffer::new();
+    let king = pieces_len(&king_pieces(relations.king, &mut digits));
+    king.saturating_add(others_len(relations))
+}
+
+#[tactic(auto, unfolding(crate::specs::ReplyText::others_text))]
+fn others_len(relations: &FileRelations) -> u64
+    ensures { result ≡ min (length (others_text relations.now)) (2 ^ 64 - 1) }
+{
+    lists_len(&named_lists(relations)).saturating_add(1)
+}
+
+fn lists_len(lists: &[NamedList<'_>]) -> u64
+    ensures { result ≡ min (length (flat_map (λ list. list_text list.name.now list.files.now) lists.now)) (2 ^ 64 - 1) }
+{
+    let mut len = 0u64;
+    for list in lists {
+        len = len.saturating_add(list_len(list.name, list.files));
+    }
+    len
+}
+
+#[tactic(auto, unfolding(crate::specs::ReplyText::list_text, crate::specs::ReplyText::closed_text))]
+fn list_len(name: &str, files: &[FileNo]) -> u64
+    ensures { result ≡ min (length (list_text name.now files.now)) (2 ^ 64 - 1) }
+{
+    let label = pieces_len(&label_pieces(name));
+    label.saturating_add(files_len(files)).saturating_add(1)
+}
+
+fn files_len(files: &[FileNo]) -> u64
+    ensures { result ≡ min (length (files_text files.now)) (2 ^ 64 - 1) }
+{
+    let [first, others @ ..] = files else {
+        return 0;
+    };
+    let mut digits = Buffer::new();
+    let first_len = digits.format(first.0).len() as u64;
+    first_len.saturating_add(following_len(others))
+}
+
+#[tactic(auto, unfolding(crate::specs::ReplyText::following_text))]
+fn following_len(files: &[FileNo]) -> u64
+    ensures { result ≡ min (length (following_text files.now)) (2 ^ 64 - 1) }
+{
+    let mut digits = Buffer::new();
+    let mut len = 0u64;
+    for file in files {
+        len = len.saturating_add(pieces_len(&following_pieces(*file, &mut digits)));
+    }
+    len
+}

@@ -1,0 +1,148 @@
+ghost use Rattle.std.specs.Prelude.{◌≡◌, ◌^◌, option_map};
+ghost use Rattle.serde_json.specs.View.{view};
+ghost use Rattle.command_text.specs.Reading.{Gives, text_of, number_of, whole_number_at, sha_at, hashes_at, code_at, import_at, decide_at, relations_at, named_command, value_command, line_command};
+
+use hex::FromHex;
+use media_base::{Code, Command, Decision, FieldName, FileNo, HashList, NewFile, Refusal, Sha};
+use serde_json::Value;
+use std::alloc::Global;
+
+/// Reads a request line, its line feed not among the bytes. It is refused as `NotJson` where it has no
+/// reading as a JSON value: it isn't UTF-8, no JSON, or nests deeper than 127 levels. It is refused as
+/// `NotARequest` by the first field, in the order `do` and then the command's own, that is missing or
+/// has another form; by `do` too where the value is no object or no command has the name. `NoMemory`
+/// may come at any line that isn't empty.
+pub fn read_line(alloc: Global, bytes: &[u8]) -> Result<Command, Refusal>
+    ensures { Gives result (line_command bytes.now) }
+{
+    match Value::from_slice(alloc, bytes) {
+        Ok(value) => command_of(alloc, &value),
+        Err(error) if error.is_memory() => Err(Refusal::NoMemory),
+        Err(_) => Err(Refusal::NotJson),
+    }
+}
+
+#[tactic(auto, unfolding(crate::specs::Reading::value_command, crate::specs::Reading::named_command))]
+fn command_of(alloc: Global, request: &Value) -> Result<Command, Refusal>
+    ensures { Gives result (value_command (view request.now)) }
+{
+    match text(request, FieldName::Do) {
+        Some("import") => import_of(alloc, request),
+        Some("decide") => decide_of(request),
+        Some("relations") => relations_of(request),
+        _ => Err(Refusal::NotARequest(FieldName::Do)),
+    }
+}
+
+#[tactic(auto, unfolding(crate::specs::Reading::import_at))]
+fn import_of(alloc: Global, request: &Value) -> Result<Command, Refusal>
+    ensures { Gives result (import_at (view request.now)) }
+{
+    let sha = sha_of(request)?;
+    let hashes = hashes_of(alloc, request)?;
+    let size = large_number(request, FieldName::Size)?;
+    let width = small_number(request, FieldName::Width)?;
+    let height = small_number(request, FieldName::Height)?;
+    Ok(Command::Import(NewFile {
+        sha,
+        hashes,
+        size,
+        width,
+        height,
+    }))
+}
+
+#[tactic(auto, unfolding(crate::specs::Reading::decide_at))]
+fn decide_of(request: &Value) -> Result<Command, Refusal>
+    ensures { Gives result (decide_at (view request.now)) }
+{
+    let code = code_of(request)?;
+    let a = small_number(request, FieldName::A)?;
+    let b = small_number(request, FieldName::B)?;
+    Ok(Command::Decide(Decision {
+        code,
+        a: FileNo(a),
+        b: FileNo(b),
+    }))
+}
+
+#[tactic(auto, unfolding(crate::specs::Reading::relations_at))]
+fn relations_of(request: &Value) -> Result<Command, Refusal>
+    ensures { Gives result (relations_at (view request.now)) }
+{
+    let file = small_number(request, FieldName::File)?;
+    Ok(Command::Relations(FileNo(file)))
+}
+
+#[tactic(auto, unfolding(crate::specs::Reading::sha_at))]
+fn sha_of(request: &Value) -> Result<Sha, Refusal>
+    ensures { Gives result (sha_at (view request.now)) }
+{
+    let refused = Err(Refusal::NotARequest(FieldName::Sha256));
+    let Some(digits) = text(request, FieldName::Sha256) else {
+        return refused;
+    };
+    match <[u8; 32] as FromHex>::from_hex(digits) {
+        Ok(bytes) => Ok(Sha(bytes)),
+        Err(_) => refused,
+    }
+}
+
+#[tactic(auto, unfolding(crate::specs::Reading::hashes_at))]
+fn hashes_of(alloc: Global, request: &Value) -> Result<HashList, Refusal>
+    ensures { Gives result (hashes_at (view request.now)) }
+{
+    let refused = Err(Refusal::NotARequest(FieldName::Hashes));
+    let Some(field) = request.get(FieldName::Hashes.text()) else {
+        return Ok(HashList::new(alloc));
+    };
+    let Some(items) = field.as_array() else {
+        return refused;
+    };
+    if !items.is_empty() {
+        return refused;
+    }
+    Ok(HashList::new(alloc))
+}
+
+#[tactic(auto, unfolding(crate::specs::Reading::code_at))]
+fn code_of(request: &Value) -> Result<Code, Refusal>
+    ensures { Gives result (code_at (view request.now)) }
+{
+    match number(request, FieldName::Code) {
+        Some(4) => Ok(Code::Better),
+        _ => Err(Refusal::NotARequest(FieldName::Code)),
+    }
+}
+
+#[tactic(auto, unfolding(crate::specs::Reading::whole_number_at))]
+fn large_number(request: &Value, name: FieldName) -> Result<u64, Refusal>
+    ensures { Gives result (whole_number_at name (2 ^ 64) (view request.now)) }
+{
+    match number(request, name) {
+        Some(value) => Ok(value),
+        None => Err(Refusal::NotARequest(name)),
+    }
+}
+
+#[tactic(auto, unfolding(crate::specs::Reading::whole_number_at))]
+fn small_number(request: &Value, name: FieldName) -> Result<u32, Refusal>
+    ensures { Gives result (whole_number_at name (2 ^ 32) (view request.now)) }
+{
+    match number(request, name) {
+        Some(value) if value <= u64::from(u32::MAX) => Ok(value as u32),
+        _ => Err(Refusal::NotARequest(name)),
+    }
+}
+
+fn text(request: &Value, name: FieldName) -> Option<&str>
+    ensures { option_map (λ text. text.now) result ≡ text_of name (view request.now) }
+{
+    request.get(name.text()).and_then(Value::as_str)
+}
+
+fn number(request: &Value, name: FieldName) -> Option<u64>
+    ensures { result ≡ number_of name (view request.now) }
+{
+    request.get(name.text()).and_then(Value::as_u64)
+}

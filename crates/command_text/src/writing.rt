@@ -1,0 +1,175 @@
+ghost use Rattle.std.specs.Prelude.{◌≡◌, ◌++◌, codes};
+ghost use Rattle.std.specs.List.{flat_map};
+ghost use Rattle.media_types.specs.Cause.{HasCause, failed};
+ghost use Rattle.media_base.specs.Transfer.{Sends, Gathers};
+ghost use Rattle.command_text.specs.ReplyText.{following_text, files_text, closed_text, list_text, others_text, relations_text, reply_text, reply_line};
+
+use crate::named_list::{NamedList, named_lists};
+use crate::pieces::{
+    decided_pieces, following_pieces, imported_pieces, king_pieces, label_pieces, refused_pieces,
+};
+use itoa::Buffer;
+use media_base::{Failed, FileNo, FileRelations, Gather, Reply, Sink};
+
+/// Writes the reply's text, without a line feed. A text of up to 4,096 bytes goes out in one write, and
+/// a longer one in pieces of up to as many. It takes no memory.
+pub fn write_reply<W: Sink>(reply: &Reply, sink: &mut W) -> Result<(), Failed>
+    ensures cause { HasCause (W.faults sink.old) (W.faults sink.new) failed result }
+    ensures sends { Sends (W.taken sink.old) (W.taken sink.new) (reply_text reply.now) result }
+{
+    let mut gather = Gather::new();
+    match put_reply(reply, &mut gather, sink) {
+        Ok(()) => gather.flush(sink),
+        Err(failed) => Err(failed),
+    }
+}
+
+/// The same, and a line feed behind it, in one write where the line has up to 4,096 bytes.
+pub fn write_reply_line<W: Sink>(reply: &Reply, sink: &mut W) -> Result<(), Failed>
+    ensures cause { HasCause (W.faults sink.old) (W.faults sink.new) failed result }
+    ensures sends { Sends (W.taken sink.old) (W.taken sink.new) (reply_line reply.now) result }
+{
+    let mut gather = Gather::new();
+    match put_line(reply, &mut gather, sink) {
+        Ok(()) => gather.flush(sink),
+        Err(failed) => Err(failed),
+    }
+}
+
+fn put_line<W: Sink>(reply: &Reply, gather: &mut Gather, sink: &mut W) -> Result<(), Failed>
+    ensures cause { HasCause (W.faults sink.old) (W.faults sink.new) failed result }
+    ensures gathers { Gathers (W.taken sink.old) gather.old (W.taken sink.new) gather.new
+        (reply_line reply.now) result }
+{
+    match put_reply(reply, gather, sink) {
+        Ok(()) => gather.put(b"\n", sink),
+        Err(failed) => Err(failed),
+    }
+}
+
+#[tactic(auto, unfolding(crate::specs::ReplyText::reply_text))]
+fn put_reply<W: Sink>(reply: &Reply, gather: &mut Gather, sink: &mut W) -> Result<(), Failed>
+    ensures cause { HasCause (W.faults sink.old) (W.faults sink.new) failed result }
+    ensures gathers { Gathers (W.taken sink.old) gather.old (W.taken sink.new) gather.new
+        (reply_text reply.now) result }
+{
+    let mut digits = Buffer::new();
+    match reply {
+        Reply::Imported(found) => gather.put_all(&imported_pieces(found, &mut digits), sink),
+        Reply::Decided(decision) => gather.put_all(&decided_pieces(*decision, &mut digits), sink),
+        Reply::Relations(relations) => put_relations(relations, gather, sink),
+        Reply::Refused(refusal) => gather.put_all(&refused_pieces(*refusal), sink),
+    }
+}
+
+#[tactic(auto, unfolding(crate::specs::ReplyText::relations_text))]
+fn put_relations<W: Sink>(
+    relations: &FileRelations,
+    gather: &mut Gather,
+    sink: &mut W,
+) -> Result<(), Failed>
+    ensures cause { HasCause (W.faults sink.old) (W.faults sink.new) failed result }
+    ensures gathers { Gathers (W.taken sink.old) gather.old (W.taken sink.new) gather.new
+        (relations_text relations.now) result }
+{
+    let mut digits = Buffer::new();
+    match gather.put_all(&king_pieces(relations.king, &mut digits), sink) {
+        Ok(()) => put_others(relations, gather, sink),
+        Err(failed) => Err(failed),
+    }
+}
+
+#[tactic(auto, unfolding(crate::specs::ReplyText::others_text))]
+fn put_others<W: Sink>(
+    relations: &FileRelations,
+    gather: &mut Gather,
+    sink: &mut W,
+) -> Result<(), Failed>
+    ensures cause { HasCause (W.faults sink.old) (W.faults sink.new) failed result }
+    ensures gathers { Gathers (W.taken sink.old) gather.old (W.taken sink.new) gather.new
+        (others_text relations.now) result }
+{
+    match put_lists(&named_lists(relations), gather, sink) {
+        Ok(()) => gather.put(b"}", sink),
+        Err(failed) => Err(failed),
+    }
+}
+
+fn put_lists<W: Sink>(
+    lists: &[NamedList<'_>],
+    gather: &mut Gather,
+    sink: &mut W,
+) -> Result<(), Failed>
+    ensures cause { HasCause (W.faults sink.old) (W.faults sink.new) failed result }
+    ensures gathers { Gathers (W.taken sink.old) gather.old (W.taken sink.new) gather.new
+        (flat_map (λ list. list_text list.name.now list.files.now) lists.now) result }
+{
+    for list in lists {
+        match put_list(list.name, list.files, gather, sink) {
+            Ok(()) => {}
+            Err(failed) => return Err(failed),
+        }
+    }
+    Ok(())
+}
+
+#[tactic(auto, unfolding(crate::specs::ReplyText::list_text))]
+fn put_list<W: Sink>(
+    name: &str,
+    files: &[FileNo],
+    gather: &mut Gather,
+    sink: &mut W,
+) -> Result<(), Failed>
+    ensures cause { HasCause (W.faults sink.old) (W.faults sink.new) failed result }
+    ensures gathers { Gathers (W.taken sink.old) gather.old (W.taken sink.new) gather.new
+        (list_text name.now files.now) result }
+{
+    match gather.put_all(&label_pieces(name), sink) {
+        Ok(()) => put_closed(files, gather, sink),
+        Err(failed) => Err(failed),
+    }
+}
+
+#[tactic(auto, unfolding(crate::specs::ReplyText::closed_text))]
+fn put_closed<W: Sink>(files: &[FileNo], gather: &mut Gather, sink: &mut W) -> Result<(), Failed>
+    ensures cause { HasCause (W.faults sink.old) (W.faults sink.new) failed result }
+    ensures gathers { Gathers (W.taken sink.old) gather.old (W.taken sink.new) gather.new
+        (closed_text files.now) result }
+{
+    match put_files(files, gather, sink) {
+        Ok(()) => gather.put(b"]", sink),
+        Err(failed) => Err(failed),
+    }
+}
+
+#[tactic(auto, unfolding(crate::specs::ReplyText::files_text))]
+fn put_files<W: Sink>(files: &[FileNo], gather: &mut Gather, sink: &mut W) -> Result<(), Failed>
+    ensures cause { HasCause (W.faults sink.old) (W.faults sink.new) failed result }
+    ensures gathers { Gathers (W.taken sink.old) gather.old (W.taken sink.new) gather.new
+        (files_text files.now) result }
+{
+    let [first, others @ ..] = files else {
+        return Ok(());
+    };
+    let mut digits = Buffer::new();
+    match gather.put(digits.format(first.0).as_bytes(), sink) {
+        Ok(()) => put_following(others, gather, sink),
+        Err(failed) => Err(failed),
+    }
+}
+
+#[tactic(auto, unfolding(crate::specs::ReplyText::following_text))]
+fn put_following<W: Sink>(files: &[FileNo], gather: &mut Gather, sink: &mut W) -> Result<(), Failed>
+    ensures cause { HasCause (W.faults sink.old) (W.faults sink.new) failed result }
+    ensures gathers { Gathers (W.taken sink.old) gather.old (W.taken sink.new) gather.new
+        (following_text files.now) result }
+{
+    let mut digits = Buffer::new();
+    for file in files {
+        match gather.put_all(&following_pieces(*file, &mut digits), sink) {
+            Ok(()) => {}
+            Err(failed) => return Err(failed),
+        }
+    }
+    Ok(())
+}
