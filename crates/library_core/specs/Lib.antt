@@ -1,0 +1,3 @@
+pub mod Performed
+pub use Rattle.library_machine.specs.Records
+pub use Rattle.library_machine.specs.Step
