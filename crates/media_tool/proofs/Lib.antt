@@ -1,0 +1,7 @@
+mod Cuts
+mod OneCut
+mod Plays
+mod Runs
+mod WordLists
+mod Feeds
+mod Kept

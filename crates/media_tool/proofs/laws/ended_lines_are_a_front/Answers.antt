@@ -1,0 +1,13 @@
+use Rattle.std.proofs.Common.{List, ℕ, [], sym, subst}
+use Rattle.std.proofs.lemmas.List.{append-nil}
+use Rattle.media_tool.specs.Session.{AnswersFront}
+use Rattle.media_tool.proofs.Feeds.{ended_front}
+use Rattle.media_tool.proofs.laws.ended_lines_are_a_front.Goals as goal
+
+pub returns-clause-read_fault : goal.returns-clause-read_fault
+returns-clause-read_fault c = λ given old new ended.
+    subst (λ (bytes : List ℕ). AnswersFront bytes old new) (append-nil given) (ended_front given [] old new ended)
+
+pub returns-clause-too_long : goal.returns-clause-too_long
+returns-clause-too_long c = λ given old new within.
+    subst (λ (bytes : List ℕ). AnswersFront bytes old new) (sym within.split) (ended_front within.front within.more old new within.answers)

@@ -1,0 +1,5 @@
+pub mod Feeding
+pub mod Lines
+pub mod Run
+pub mod Session
+pub mod Words

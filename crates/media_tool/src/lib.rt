@@ -1,0 +1,17 @@
+//! The tool: a session from bytes to bytes.
+#![tactic(auto)]
+
+mod laws;
+mod lines;
+mod play;
+mod program;
+mod session;
+mod standard;
+
+pub use laws::{ended_lines_are_a_front, one_cut};
+pub use play::MAX_INPUT;
+pub use program::run;
+pub use standard::{StdSink, StdSource};
+
+#[cfg(test)]
+mod tests;

@@ -1,0 +1,186 @@
+ghost use Rattle.std.specs.Prelude.{◌≡◌, ◌≤◌, ◌⊎◌, ℕ, List, [], ◌++◌, Option, OnOk, OnErr, IfErr};
+ghost use Rattle.media_types.specs.Cause.{HasCause, Rose, failed};
+ghost use Rattle.media_tool.specs.Feeding.{Fed, LineSent, Stopped};
+ghost use Rattle.media_tool.specs.Lines.{HasNoFeed, with_feed};
+ghost use Rattle.library_machine.specs.Records.{no_records};
+ghost use Rattle.media_tool.specs.Run.{LineAnswered};
+ghost use Rattle.media_tool.specs.Session.{Played};
+
+use crate::lines::split_line;
+use command_text::{read_line, write_reply_line};
+use library_core::Library;
+use media_base::{Caller, Failed, Reply, Sink, Status, Steps};
+use std::alloc::Global;
+use std::sync::ledger::Ledger;
+
+/// Why a session stopped within its input.
+#[derive(Clone, Copy, Debug, PartialEq, Eq)]
+pub enum Stop {
+    WriteFault,
+    NoMemory,
+}
+
+/// A session between two pieces of its input.
+#[derive(Drop)]
+pub struct Session {
+    pub library: Library,
+    /// The line that no line feed ended yet.
+    pub line: Vec<u8>,
+}
+
+// The reply to one line.
+fn reply_to<L: Ledger>(
+    alloc: Global,
+    library: &mut Library,
+    line: &[u8],
+    steps: &mut Steps<L>,
+) -> Reply
+    ensures { LineAnswered library.old line.now result library.new }
+{
+    match read_line(alloc, line) {
+        Ok(command) => library.answer(Caller::Console, &command, steps),
+        Err(refusal) => Reply::Refused(refusal),
+    }
+}
+
+// Answers one line.
+fn answer_line<W: Sink, L: Ledger>(
+    alloc: Global,
+    library: &mut Library,
+    line: &[u8],
+    sink: &mut W,
+    steps: &mut Steps<L>,
+) -> Result<(), Failed>
+    ensures cause { HasCause (W.faults sink.old) (W.faults sink.new) failed result }
+    ensures sent { LineSent library.old line.now library.new (W.taken sink.old) (W.taken sink.new) result }
+{
+    let reply = reply_to(alloc, library, line, steps);
+    write_reply_line(&reply, sink)
+}
+
+impl Session {
+    pub fn new(alloc: Global) -> Session
+        ensures library { result.library ≡ no_records }
+        ensures line { result.line.items ≡ [] }
+    {
+        Session {
+            library: Library::new(alloc),
+            line: Vec::new(alloc),
+        }
+    }
+
+    /// Answers the lines that the piece ends, and keeps what comes behind them.
+    pub fn feed<W: Sink, L: Ledger>(
+        &mut self,
+        alloc: Global,
+        piece: &[u8],
+        sink: &mut W,
+        steps: &mut Steps<L>,
+    ) -> Result<(), Stop>
+        requires { HasNoFeed self.old.line.items }
+        ensures cause { HasCause (W.faults sink.old) (W.faults sink.new) Stop.WriteFault result }
+        ensures fed { OnOk result (Fed self.old.library self.old.line.items piece.now
+            self.new.library self.new.line.items (W.taken sink.old) (W.taken sink.new)) }
+        ensures stopped { OnErr result (Stopped self.old.library self.old.line.items piece.now
+            (W.taken sink.old) (W.taken sink.new)) }
+    {
+        let mut rest = piece;
+        while let Some((line, after)) = split_line(rest) {
+            match self.end_line(alloc, line, sink, steps) {
+                Ok(()) => rest = after,
+                Err(stop) => return Err(stop),
+            }
+        }
+        match self.keep(rest) {
+            Ok(()) => Ok(()),
+            Err(stop) => Err(stop),
+        }
+    }
+
+    /// Answers the line that is left at the end of the input, if it isn't empty.
+    pub fn finish<W: Sink, L: Ledger>(
+        &mut self,
+        alloc: Global,
+        sink: &mut W,
+        steps: &mut Steps<L>,
+    ) -> Status
+        ensures later { W.faults sink.old ≤ W.faults sink.new }
+        ensures write { result ≡ Status.WriteFault → Rose (W.faults sink.old) (W.faults sink.new) }
+        ensures either { (result ≡ Status.Done) ⊎ (result ≡ Status.WriteFault) }
+        ensures ends { (given : List ℕ) (taken : Option (List ℕ))
+            → Fed no_records [] given self.old.library self.old.line.items taken (W.taken sink.old)
+            → Played result given taken (W.taken sink.new) }
+    {
+        if self.line.is_empty() {
+            return Status::Done;
+        }
+        match self.answer_kept(alloc, sink, steps) {
+            Ok(()) => Status::Done,
+            Err(_) => Status::WriteFault,
+        }
+    }
+
+    // Keeps bytes without a line feed.
+    fn keep(&mut self, rest: &[u8]) -> Result<(), Stop>
+        ensures library { self.new.library ≡ self.old.library }
+        ensures kept { OnOk result (self.new.line.items ≡ self.old.line.items ++ rest.now) }
+        ensures err { IfErr result (λ stop. stop ≡ Stop.NoMemory) }
+    {
+        match self.line.extend_from_slice(rest) {
+            Ok(()) => Ok(()),
+            Err(_) => Err(Stop::NoMemory),
+        }
+    }
+
+    // Answers the kept line, which these bytes finish. A line that came in one piece isn't copied.
+    fn end_line<W: Sink, L: Ledger>(
+        &mut self,
+        alloc: Global,
+        front: &[u8],
+        sink: &mut W,
+        steps: &mut Steps<L>,
+    ) -> Result<(), Stop>
+        requires { HasNoFeed (self.old.line.items ++ front.now) }
+        ensures cause { HasCause (W.faults sink.old) (W.faults sink.new) Stop.WriteFault result }
+        ensures fed { OnOk result (Fed self.old.library self.old.line.items (with_feed front.now)
+            self.new.library self.new.line.items (W.taken sink.old) (W.taken sink.new)) }
+        ensures stopped { OnErr result ((more : List ℕ)
+            → Stopped self.old.library self.old.line.items (with_feed front.now ++ more)
+            (W.taken sink.old) (W.taken sink.new)) }
+    {
+        if self.line.is_empty() {
+            return match answer_line(alloc, &mut self.library, front, sink, steps) {
+                Ok(()) => Ok(()),
+                Err(_) => Err(Stop::WriteFault),
+            };
+        }
+        match self.keep(front) {
+            Ok(()) => match self.answer_kept(alloc, sink, steps) {
+                Ok(()) => Ok(()),
+                Err(_) => Err(Stop::WriteFault),
+            },
+            Err(stop) => Err(stop),
+        }
+    }
+
+    // Answers the kept line as it is.
+    fn answer_kept<W: Sink, L: Ledger>(
+        &mut self,
+        alloc: Global,
+        sink: &mut W,
+        steps: &mut Steps<L>,
+    ) -> Result<(), Failed>
+        ensures cause { HasCause (W.faults sink.old) (W.faults sink.new) failed result }
+        ensures sent { LineSent self.old.library self.old.line.items self.new.library
+            (W.taken sink.old) (W.taken sink.new) result }
+        ensures empty { OnOk result (self.new.line.items ≡ []) }
+    {
+        match answer_line(alloc, &mut self.library, &self.line, sink, steps) {
+            Ok(()) => {
+                self.line.clear();
+                Ok(())
+            }
+            Err(failed) => Err(failed),
+        }
+    }
+}

@@ -1,0 +1,78 @@
+//! The adapters over the standard streams: the trusted edge. They tell no content, so no contract speaks
+//! of the bytes that pass through them.
+
+ghost use Rattle.std.specs.Prelude.{◌<◌, length, None};
+ghost use Rattle.media_types.specs.Cause.{HasCause, failed};
+ghost use Rattle.media_base.specs.Transfer.{Reads, Writes};
+
+use media_base::{Failed, Sink, Source};
+use std::io::{ErrorKind, Read, Write};
+
+/// A source over a reader, as standard input is.
+#[derive(Drop)]
+pub struct StdSource<R: Read + Drop> {
+    reader: R,
+    faults: u64,
+}
+
+impl<R: Read + Drop> StdSource<R> {
+    pub fn new(reader: R) -> StdSource<R> {
+        StdSource { reader, faults: 0 }
+    }
+}
+
+impl<R: Read + Drop> Source for StdSource<R> {
+    ghost use Rattle.std.specs.Prelude.{None};
+
+    ghost faults = { λ source. source.faults };
+
+    ghost left = { λ _. None };
+
+    /// An interrupted read is tried again.
+    fn read(&mut self, into: &mut [u8]) -> Result<usize, Failed> {
+        for _ in 0..u64::MAX {
+            match self.reader.read(into) {
+                Ok(count) => return Ok(count),
+                Err(error) if error.kind() == ErrorKind::Interrupted => {}
+                Err(_) => break,
+            }
+        }
+        self.faults = self.faults.saturating_add(1);
+        Err(Failed)
+    }
+}
+
+/// A sink over a writer, as standard output is.
+#[derive(Drop)]
+pub struct StdSink<W: Write + Drop> {
+    writer: W,
+    faults: u64,
+}
+
+impl<W: Write + Drop> StdSink<W> {
+    pub fn new(writer: W) -> StdSink<W> {
+        StdSink { writer, faults: 0 }
+    }
+}
+
+impl<W: Write + Drop> Sink for StdSink<W> {
+    ghost use Rattle.std.specs.Prelude.{None};
+
+    ghost faults = { λ sink. sink.faults };
+
+    ghost taken = { λ _. None };
+
+    /// An interrupted write is tried again. A writer that takes nothing of a piece has failed.
+    fn write(&mut self, piece: &[u8]) -> Result<usize, Failed> {
+        for _ in 0..u64::MAX {
+            match self.writer.write(piece) {
+                Ok(0) if !piece.is_empty() => break,
+                Ok(count) => return Ok(count),
+                Err(error) if error.kind() == ErrorKind::Interrupted => {}
+                Err(_) => break,
+            }
+        }
+        self.faults = self.faults.saturating_add(1);
+        Err(Failed)
+    }
+}
