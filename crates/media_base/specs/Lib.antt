@@ -1,3 +1,4 @@
+pub mod GatherLaws
 pub mod Names
 pub mod Scripts
 pub mod Transfer

@@ -2,7 +2,7 @@ use Rattle.std.proofs.Common.{List, ℕ, ◌++◌, Ok, Err, arith, subst}
 use Rattle.media_types.specs.Cause.{failed}
 use Rattle.media_base.specs.Transfer.{TookFront, Gathered}
 use Rattle.command_text.specs.ReplyText.{next_text, following_text}
-use Rattle.command_text.proofs.Putting.{gathers_item, front_of_items, gathered_items}
+use Rattle.media_base.specs.GatherLaws.{gathers_item, front_of_items, gathered_items}
 use Rattle.command_text.proofs.writing.put_following.Goals as goal
 
 pub returns-in-Err-clause-gathers : goal.returns-in-Err-clause-gathers

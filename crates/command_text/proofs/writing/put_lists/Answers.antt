@@ -1,7 +1,7 @@
 use Rattle.std.proofs.Common.{Ok, Err, arith}
 use Rattle.media_types.specs.Cause.{failed}
 use Rattle.command_text.specs.ReplyText.{list_text}
-use Rattle.command_text.proofs.Putting.{gathers_item, front_of_items, gathered_items}
+use Rattle.media_base.specs.GatherLaws.{gathers_item, front_of_items, gathered_items}
 use Rattle.command_text.specs.declared.named_list.NamedList.{NamedList}
 use Rattle.command_text.proofs.writing.put_lists.Goals as goal
 
