@@ -1,10 +1,11 @@
-//! The decisions that were recorded, undone ones among them. The table of decisions comes with the
-//! step that brings undoing; the row stands here from the first, since the records are lists of it.
+//! The decisions that were recorded, undone ones among them.
 #![tactic(auto)]
 
+mod book;
 mod decision_row;
 mod standing;
 
+pub use book::Book;
 pub use decision_row::DecisionRow;
 pub use standing::standing_decisions;
 

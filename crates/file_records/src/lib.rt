@@ -1,8 +1,14 @@
-//! What is recorded of files. The table of files and its look-ups come with the step that puts the
-//! library over tables; the row stands here from the first, since the records are lists of it.
+//! What is recorded of files: the row of a file, and the table of files with its look-up by SHA-256.
 #![tactic(auto)]
 
 mod file_row;
+mod files;
+mod import_plan;
 
 pub use file_row::FileRow;
+pub use files::Files;
+pub use import_plan::ImportPlan;
 pub use media_types::NewFile;
+
+#[cfg(test)]
+mod tests;

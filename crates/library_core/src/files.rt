@@ -1,5 +1,5 @@
 ghost use Rattle.std.specs.Prelude.{◌≡◌};
-ghost use Rattle.library_machine.specs.Step.{file_with};
+ghost use Rattle.file_records.specs.Lookup.{file_with};
 
 use file_records::FileRow;
 use media_base::Sha;

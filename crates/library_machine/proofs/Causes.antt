@@ -19,7 +19,8 @@ use Rattle.media_base.specs.declared.reply.Reply.TheVariants.{Refused}
 use Rattle.file_records.specs.declared.file_row.FileRow.{FileRow}
 use Rattle.library_machine.specs.Records.{Records, IsThere, IsNew, IsFullOfFiles, IsFullOfDecisions}
 use Rattle.library_machine.specs.Laws.{NeverNoMemory, NotFoundIsNew, RefusesImports, RefusesDecisions, RefusesRelations}
-use Rattle.library_machine.specs.Step.{Outcome, import_at, import, step, file_with, has_file}
+use Rattle.file_records.specs.Lookup.{file_with}
+use Rattle.library_machine.specs.Step.{Outcome, import_at, import, step, has_file}
 use Rattle.library_machine.proofs.Branches.{import_by, decide_by, decide_is, relations_by, relations_is}
 
 -- the test of a file by its SHA-256

@@ -13,7 +13,8 @@ use Rattle.decision_book.specs.Standing as book
 use Rattle.relation_groups.specs.Relations.{AreAmong}
 use Rattle.library_machine.specs.Records.{Records, Fits}
 use Rattle.library_machine.specs.Laws.{StepsKeepFit, AnswersKeepFit}
-use Rattle.library_machine.specs.Step.{Outcome, import_at, import, step, file_with, has_file, by_step, no_memory}
+use Rattle.file_records.specs.Lookup.{file_with}
+use Rattle.library_machine.specs.Step.{Outcome, import_at, import, step, has_file, by_step, no_memory}
 use Rattle.library_machine.proofs.Branches.{import_by, decide_by, decide_is, relations_by, relations_is}
 
 -- decisions of files that are there stay so when files are added

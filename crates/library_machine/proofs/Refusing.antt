@@ -9,7 +9,8 @@ use Rattle.media_base.specs.declared.refusal.Refusal.{Refusal}
 use Rattle.media_base.specs.declared.reply.Reply.TheVariants.{Refused}
 use Rattle.library_machine.specs.Laws.{RefusalsChangeNothing, RefusedAnswersChangeNothing}
 use Rattle.library_machine.specs.Records.{Records}
-use Rattle.library_machine.specs.Step.{Outcome, step, import, import_at, file_with, by_step, no_memory}
+use Rattle.file_records.specs.Lookup.{file_with}
+use Rattle.library_machine.specs.Step.{Outcome, step, import, import_at, by_step, no_memory}
 use Rattle.library_machine.proofs.Branches.{import_by, decide_by, decide_is, relations_by, relations_is}
 
 -- where the outcome is a refusal, its records are these

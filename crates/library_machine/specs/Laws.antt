@@ -11,8 +11,9 @@ use Rattle.media_base.specs.declared.refusal.Refusal.{Refusal}
 use Rattle.media_base.specs.declared.refusal.Refusal.TheVariants as refusals
 use Rattle.media_base.specs.declared.reply.Reply.{Reply}
 use Rattle.media_base.specs.declared.reply.Reply.TheVariants.{Refused}
+use Rattle.file_records.specs.Lookup.{file_with}
 use Rattle.library_machine.specs.Records.{Records, Fits, IsThere, IsNew, IsFullOfFiles, IsFullOfDecisions}
-use Rattle.library_machine.specs.Step.{Answered, file_with, step}
+use Rattle.library_machine.specs.Step.{Answered, step}
 
 -- a refused command leaves the records as they were
 abbrev pub RefusalsChangeNothing : Type 0

@@ -4,6 +4,7 @@ pub mod Session
 pub mod Step
 pub mod Worked
 pub use Rattle.media_base.specs.Names
+pub use Rattle.file_records.specs.Lookup
 pub use Rattle.file_records.specs.Rows
 pub use Rattle.decision_book.specs.Standing
 pub use Rattle.relation_groups.specs.Relations

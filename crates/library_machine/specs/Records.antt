@@ -4,6 +4,7 @@ use Rattle.media_types.specs.declared.hash.Sha.{Sha}
 use Rattle.media_types.specs.declared.limits.TheConstants.{MAX_DECISIONS, MAX_FILES}
 use Rattle.media_types.specs.declared.numbers.FileNo.{FileNo}
 use Rattle.file_records.specs.declared.file_row.FileRow.{FileRow}
+use Rattle.file_records.specs.Lookup.{IsUnknown}
 use Rattle.decision_book.specs.declared.decision_row.DecisionRow.{DecisionRow}
 use Rattle.decision_book.specs.Standing.{decision_of}
 use Rattle.relation_groups.specs.Relations.{AreAmong}
@@ -29,7 +30,7 @@ IsThere r file = file.0 < length r.files
 
 -- no file has this SHA-256
 abbrev pub IsNew : Records → Sha → Type 0
-IsNew r sha = All (λ file. file.sha ≢ sha) r.files
+IsNew r sha = IsUnknown sha r.files
 
 -- there are as many files as a library holds
 abbrev pub IsFullOfFiles : Records → Type 0

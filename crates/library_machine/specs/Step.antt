@@ -15,6 +15,7 @@ use Rattle.media_base.specs.declared.reply.ImportStatus.TheVariants as imports
 use Rattle.media_base.specs.declared.reply.Reply.{Reply}
 use Rattle.media_base.specs.declared.reply.Reply.TheVariants as replies
 use Rattle.file_records.specs.declared.file_row.FileRow.{FileRow}
+use Rattle.file_records.specs.Lookup.{file_with}
 use Rattle.file_records.specs.Rows.{row_of}
 use Rattle.decision_book.specs.Standing as book
 use Rattle.relation_groups.specs.Relations.{relations_at}
@@ -27,10 +28,6 @@ pub record Outcome : Type 0 where
 -- a refused command changes nothing
 abbrev pub refused : Records → Refusal → Outcome
 refused r why = record { records = r; reply = replies.Refused why }
-
--- the place of the file with this SHA-256
-abbrev pub file_with : Sha → List FileRow → Option ℕ
-file_with sha files = position (λ file. bytes_eq file.sha.0 sha.0) files
 
 abbrev pub has_file : Records → FileNo → Bool
 has_file r file = nat_lt file.0 (length r.files)

@@ -1,5 +1,12 @@
+pub mod Closed
+pub mod Firsts
 pub mod Folds
+pub mod Leaving
 pub mod Lists
 pub mod Named
+pub mod Naming
+pub mod Nexts
+pub mod Readings
 pub mod Sound
+pub mod Splits
 pub mod Steps

@@ -17,7 +17,7 @@ abbrev AreBelow : ℕ → List (ℕ × ℕ) → Type 0
 AreBelow n ps = All (λ p. (p.0 < n) × (p.1 < n)) ps
 
 -- a list of numbers after a write
-get_or-set : (xs : List ℕ) (x v f : ℕ) → x < length xs → get_or (set xs x v) f 0 ≡ cond (f == x) v (get_or xs f 0)
+pub get_or-set : (xs : List ℕ) (x v f : ℕ) → x < length xs → get_or (set xs x v) f 0 ≡ cond (f == x) v (get_or xs f 0)
 get_or-set xs x v f h = grind (arith, nat_tests, get_or-set_at, get_or-set_other)
 
 -- the labels after a file got a label that no file had

@@ -1,313 +1,324 @@
-ghost use Rattle.std.specs.Prelude.{◌≡◌, ◌≤◌, ◌<◌, ◌+◌, ◌^◌, vec_len, IfOk, OnOk, if◌then◌else◌};
+ghost use Rattle.std.specs.Prelude.{◌≡◌, ◌≢◌, ◌+◌, ◌<◌, ◌≤◌, ℕ, true, false, length, All, IfOk, OnOk};
+ghost use Rattle.media_types.specs.declared.limits.TheConstants.{MAX_DECISIONS, MAX_FILES};
+ghost use Rattle.relation_groups.specs.Clusters.{IsSplitBy, IsWithin, is_one_of, patched};
+ghost use Rattle.relation_groups.specs.Reading.{size_of, relations_in, is_past, next_of, is_king_beside, names_unrelated, IsPlanFor, relations_after};
+ghost use Rattle.relation_groups.specs.Relations.{Relations, at_first, by_code, class_of, of_one_group, relations};
 
-use crate::numbers::{drop_within, has_pair, numbers_below, rename, rename_in_pairs};
-use media_types::{Code, Decision, FileList, FileNo, FileRelations, NoMemory};
+use crate::draft::Draft;
+use crate::group_plan::GroupPlan;
+use crate::numbers::has_pair;
+use media_types::{Code, Decision, DecisionList, FileList, FileNo, NoMemory, Steps};
 use std::alloc::Global;
+use std::marker::Model;
+use std::sync::ledger::Ledger;
 
-/// The groups and classes of some files while decisions are folded into them.
+/// The groups of duplicates, their kings, the classes of alternates and the not-related pairs of classes,
+/// kept for all files. A class is named by its least file.
 #[derive(Drop)]
 pub struct Groups {
-    files: u32,
+    alloc: Global,
     /// The king of each file's group.
     kings: Vec<u32>,
-    /// The label of each file's class, equal exactly for files of one class.
-    labels: Vec<u32>,
-    /// The not-related pairs of classes, by their labels in either order.
+    /// The least file of each file's class.
+    classes: Vec<u32>,
+    /// The not-related pairs, by the least files of the two classes in either order.
     pairs: Vec<(u32, u32)>,
-    /// Above every label so far.
-    next_label: u32,
-    ghost kings_len: { vec_len kings ≡ files },
-    ghost labels_len: { vec_len labels ≡ files },
+}
+
+impl Model for Groups {
+    ghost use Rattle.std.specs.Prelude.{◌-◌, min, vec_len, vec_capacity};
+    ghost use Rattle.relation_groups.specs.Reading.{Kept, AreInOrder};
+
+    ghost Value = { Kept };
+
+    ghost view = { λ groups. record {
+      kings = groups.kings.items;
+      classes = groups.classes.items;
+      pairs = groups.pairs.items;
+      room = min (vec_capacity groups.kings - vec_len groups.kings) (vec_capacity groups.classes - vec_len groups.classes);
+    } };
+
+    ghost invariant = { λ groups. AreInOrder groups.kings.items groups.classes.items groups.pairs.items };
 }
 
 impl Groups {
-    ghost use Rattle.relation_groups.specs.Relations.{at_first, leaves, join_classes, gets_king, group_joins, Relations, is_king, of_one_group, better, same, alternates, not_related, decided, members, alternates_of, not_related_to, is_alternate_of, is_not_related_to, standing_of};
-    ghost use Rattle.relation_groups.specs.Kept.{Keeps, Takes};
+    ghost use Rattle.relation_groups.specs.Kept.{Holds};
 
-    /// Each file alone.
-    pub fn new(alloc: Global, files: u32) -> Result<Groups, NoMemory>
-        ensures files { IfOk result (λ G. G.files ≡ files) }
-        ensures label { IfOk result (λ G. G.next_label ≡ files) }
-        ensures kept { IfOk result (λ G. Keeps G at_first) }
+    /// No files. It takes no memory yet.
+    pub fn new(alloc: Global) -> Groups
+        ensures size { size_of result ≡ 0 }
+        ensures relations { relations_in result ≡ at_first }
     {
-        let kings = numbers_below(alloc, files)?;
-        let labels = numbers_below(alloc, files)?;
-        Ok(Groups {
-            files,
-            kings,
-            labels,
+        Groups {
+            alloc,
+            kings: Vec::new(alloc),
+            classes: Vec::new(alloc),
             pairs: Vec::new(alloc),
-            next_label: files,
-        })
-    }
-
-    fn is_king(&self, file: u32) -> bool
-        requires { file < self.now.files }
-        ensures { (R : Relations) → Keeps self.now R → result ≡ is_king R file }
-    {
-        self.kings[file as usize] == file
-    }
-
-    fn are_one_group(&self, a: u32, b: u32) -> bool
-        requires a_known { a < self.now.files }
-        requires b_known { b < self.now.files }
-        ensures { (R : Relations) → Keeps self.now R → result ≡ of_one_group R a b }
-    {
-        self.kings[a as usize] == self.kings[b as usize]
-    }
-
-    /// Makes a file its own king, alone in a class of its own.
-    fn leave(&mut self, file: u32)
-        requires known { file < self.old.files }
-        requires room { self.old.next_label + 1 < 2 ^ 32 }
-        ensures takes { Takes self.old self.new (leaves file) }
-        ensures label { self.new.next_label ≡ self.old.next_label + 1 }
-    {
-        self.kings[file as usize] = file;
-        self.labels[file as usize] = self.next_label;
-        self.next_label += 1;
-    }
-
-    /// Makes one class of the classes of two files.
-    fn join_classes(&mut self, a: u32, b: u32)
-        requires a_known { a < self.old.files }
-        requires b_known { b < self.old.files }
-        ensures takes { Takes self.old self.new (join_classes a b) }
-        ensures label { self.new.next_label ≡ self.old.next_label }
-    {
-        let kept = self.labels[a as usize];
-        let dropped = self.labels[b as usize];
-        if kept != dropped {
-            drop_within(&mut self.pairs, kept, dropped);
-            rename_in_pairs(&mut self.pairs, dropped, kept);
-            rename(&mut self.labels, dropped, kept);
         }
     }
 
-    /// Gives the group of a file a king.
-    fn crown(&mut self, file: u32, king: u32)
-        requires known { file < self.old.files }
-        ensures takes { Takes self.old self.new (gets_king file king) }
-        ensures label { self.new.next_label ≡ self.old.next_label }
+    /// Makes room for one more file.
+    pub fn reserve_file(&mut self) -> Result<(), NoMemory>
+        ensures size { size_of self.new ≡ size_of self.old }
+        ensures relations { relations_in self.new ≡ relations_in self.old }
+        ensures ok { OnOk result (1 ≤ self.new.room) }
+        ensures room { self.old.room ≤ self.new.room }
     {
-        let old_king = self.kings[file as usize];
-        rename(&mut self.kings, old_king, king);
-    }
-
-    /// Lets the group of a file join the group of another.
-    fn join_group(&mut self, file: u32, host: u32)
-        requires known { file < self.old.files }
-        requires host_known { host < self.old.files }
-        ensures takes { Takes self.old self.new (group_joins file host) }
-        ensures label { self.new.next_label ≡ self.old.next_label }
-    {
-        let king = self.kings[host as usize];
-        self.join_classes(host, file);
-        self.crown(file, king);
-    }
-
-    /// Makes a file leave where it is no king.
-    fn leave_unless_king(&mut self, file: u32)
-        requires known { file < self.old.files }
-        requires room { self.old.next_label + 1 < 2 ^ 32 }
-        ensures takes { Takes self.old self.new (λ R. if is_king R file then R else leaves file R) }
-        ensures label { self.new.next_label ≤ self.old.next_label + 1 }
-    {
-        if !self.is_king(file) {
-            self.leave(file);
-        }
-    }
-
-    /// Of two files of one group, makes the one leave that is no king, the second where neither is.
-    fn leave_one(&mut self, a: u32, b: u32)
-        requires a_known { a < self.old.files }
-        requires b_known { b < self.old.files }
-        requires room { self.old.next_label + 1 < 2 ^ 32 }
-        ensures takes { Takes self.old self.new (λ R. leaves (if is_king R b then a else b) R) }
-        ensures label { self.new.next_label ≤ self.old.next_label + 1 }
-    {
-        if self.is_king(b) {
-            self.leave(a);
-        } else {
-            self.leave(b);
-        }
-    }
-
-    fn decide_better(&mut self, a: u32, b: u32)
-        requires a_known { a < self.old.files }
-        requires b_known { b < self.old.files }
-        requires room { self.old.next_label + 1 < 2 ^ 32 }
-        ensures takes { Takes self.old self.new (better a b) }
-        ensures label { self.new.next_label ≤ self.old.next_label + 1 }
-    {
-        if !self.are_one_group(a, b) {
-            self.leave_unless_king(b);
-            self.join_group(b, a);
-        } else if self.is_king(b) {
-            self.crown(a, a);
-        }
-    }
-
-    fn decide_same(&mut self, a: u32, b: u32)
-        requires a_known { a < self.old.files }
-        requires b_known { b < self.old.files }
-        requires room { self.old.next_label + 1 < 2 ^ 32 }
-        ensures takes { Takes self.old self.new (same a b) }
-        ensures label { self.new.next_label ≤ self.old.next_label + 1 }
-    {
-        if self.are_one_group(a, b) {
-            return;
-        }
-        if self.is_king(b) {
-            self.join_group(b, a);
-        } else if self.is_king(a) {
-            self.join_group(a, b);
-        } else {
-            self.leave(b);
-            self.join_group(b, a);
-        }
-    }
-
-    fn decide_alternates(&mut self, a: u32, b: u32)
-        requires a_known { a < self.old.files }
-        requires b_known { b < self.old.files }
-        requires room { self.old.next_label + 1 < 2 ^ 32 }
-        ensures takes { Takes self.old self.new (alternates a b) }
-        ensures label { self.new.next_label ≤ self.old.next_label + 1 }
-    {
-        if self.are_one_group(a, b) {
-            self.leave_one(a, b);
-            self.join_classes(a, b);
-        } else {
-            self.join_classes(a, b);
-        }
-    }
-
-    fn decide_not_related(&mut self, a: u32, b: u32) -> Result<(), NoMemory>
-        requires a_known { a < self.old.files }
-        requires b_known { b < self.old.files }
-        ensures takes { OnOk result (Takes self.old self.new (not_related a b)) }
-        ensures label { self.new.next_label ≡ self.old.next_label }
-    {
-        let of_a = self.labels[a as usize];
-        let of_b = self.labels[b as usize];
-        if of_a != of_b {
-            self.pairs.push((of_a, of_b))?;
-        }
+        self.kings.reserve(1)?;
+        self.classes.reserve(1)?;
         Ok(())
     }
 
-    /// Makes one decision.
-    pub fn decide(&mut self, decision: Decision) -> Result<(), NoMemory>
-        requires a_known { decision.a.0 < self.old.files }
-        requires b_known { decision.b.0 < self.old.files }
-        requires room { self.old.next_label + 1 < 2 ^ 32 }
-        ensures takes { OnOk result (Takes self.old self.new (decided decision)) }
-        ensures label { self.new.next_label ≤ self.old.next_label + 1 }
+    /// Adds a file, which stands alone, in the room that was made.
+    pub fn add_file(&mut self)
+        requires room { 1 ≤ self.old.room }
+        requires few { size_of self.old < MAX_FILES }
+        ensures size { size_of self.new ≡ size_of self.old + 1 }
+        ensures relations { relations_in self.new ≡ relations_in self.old }
+        ensures room { self.old.room ≤ self.new.room + 1 }
     {
-        let a = decision.a.0;
-        let b = decision.b.0;
-        match decision.code {
-            Code::Better => self.decide_better(a, b),
-            Code::Same => self.decide_same(a, b),
-            Code::Alternates => self.decide_alternates(a, b),
-            Code::NotRelated => self.decide_not_related(a, b)?,
-        }
-        Ok(())
+        let file = self.kings.len() as u32;
+        self.kings.push_reserved(file);
+        self.classes.push_reserved(file);
     }
 
-    fn are_one_class(&self, a: u32, b: u32) -> bool
-        requires a_known { a < self.now.files }
-        requires b_known { b < self.now.files }
-        ensures { (R : Relations) → Keeps self.now R → result ≡ R.alike a b }
+    /// The number of files.
+    pub fn len(&self) -> u32
+        ensures size { result ≡ size_of self.now }
+        ensures few { result ≤ MAX_FILES }
     {
-        self.labels[a as usize] == self.labels[b as usize]
+        self.kings.len() as u32
     }
 
-    /// Whether the classes of two files are a not-related pair.
-    fn are_parted(&self, a: u32, b: u32) -> bool
-        requires a_known { a < self.now.files }
-        requires b_known { b < self.now.files }
-        ensures { (R : Relations) → Keeps self.now R → result ≡ R.unrelated a b }
+    /// The king of a file's group.
+    pub fn king_of(&self, file: FileNo) -> FileNo
+        requires { file.0 < size_of self.now }
+        ensures king { result.0 ≡ (relations_in self.now).king file.0 }
+        ensures known { result.0 < size_of self.now }
     {
-        has_pair(
+        FileNo(self.kings[file.0 as usize])
+    }
+
+    /// The least file of a file's class, which names the class.
+    pub fn class_of(&self, file: FileNo) -> FileNo
+        requires { file.0 < size_of self.now }
+        ensures class { result.0 ≡ class_of (relations_in self.now) file.0 }
+        ensures known { result.0 < size_of self.now }
+    {
+        FileNo(self.classes[file.0 as usize])
+    }
+
+    /// Whether the classes that these files are of are a not-related pair. It may look at every pair.
+    pub fn is_not_related(&self, c: FileNo, d: FileNo) -> bool
+        requires c_known { c.0 < size_of self.now }
+        requires d_known { d.0 < size_of self.now }
+        ensures { result ≡ (relations_in self.now).unrelated c.0 d.0 }
+    {
+        let of_c = self.classes[c.0 as usize];
+        let of_d = self.classes[d.0 as usize];
+        has_pair(self.pairs.as_slice(), of_c, of_d)
+    }
+
+    /// Plans what a decision of two files changes. It copies all lists, and changes nothing.
+    pub fn plan_decide<L: Ledger>(
+        &mut self,
+        code: Code,
+        a: FileNo,
+        b: FileNo,
+        steps: &mut Steps<L>,
+    ) -> Result<GroupPlan, NoMemory>
+        requires a_known { a.0 < size_of self.old }
+        requires b_known { b.0 < size_of self.old }
+        requires two { a.0 ≢ b.0 }
+        ensures fits { IfOk result (λ plan. IsPlanFor plan self.new) }
+        ensures after { IfOk result (λ plan. relations_after plan self.new
+            ≡ by_code code a.0 b.0 (relations_in self.old)) }
+        ensures same { self.new ≡ self.old }
+        ensures steps { steps.old ≤ steps.new }
+    {
+        let mut draft = self.draft()?;
+        draft.decide(Decision { code, a, b })?;
+        GroupPlan::of_draft(self.alloc, draft)
+    }
+
+    /// Plans to make the decisions of some files anew, from each of the files alone. It copies all lists,
+    /// and changes nothing.
+    pub fn plan_refold<L: Ledger>(
+        &mut self,
+        files: &FileList,
+        decisions: &DecisionList,
+        steps: &mut Steps<L>,
+    ) -> Result<GroupPlan, NoMemory>
+        requires known { All (λ f. f.0 < size_of self.old) files.now }
+        requires few_files { length files.now ≤ MAX_FILES }
+        requires few_decisions { length decisions.now ≤ MAX_DECISIONS }
+        requires within { IsWithin (is_one_of files.now) decisions.now }
+        requires closed { IsSplitBy (is_one_of files.now) (relations_in self.old) }
+        ensures fits { IfOk result (λ plan. IsPlanFor plan self.new) }
+        ensures after { let these = is_one_of files.now in IfOk result (λ plan.
+            relations_after plan self.new
+            ≡ patched these (relations decisions.now) (relations_in self.old)) }
+        ensures same { self.new ≡ self.old }
+        ensures steps { steps.old ≤ steps.new }
+    {
+        let mut draft = self.draft()?;
+        draft.leave_all(files.as_slice());
+        draft.decide_all(decisions.as_slice())?;
+        GroupPlan::of_draft(self.alloc, draft)
+    }
+
+    /// Carries a plan out, which was made of these groups as they are. It takes no memory, and there may
+    /// be no room for more files after it.
+    pub fn commit(&mut self, plan: GroupPlan)
+        requires { IsPlanFor plan self.old }
+        ensures size { size_of self.new ≡ size_of self.old }
+        ensures relations { relations_in self.new ≡ relations_after plan self.old }
+    {
+        *self = plan.into_groups();
+    }
+
+    // The draft that begins here.
+    fn draft(&self) -> Result<Draft, NoMemory>
+        ensures held { IfOk result (λ G. Holds G (relations_in self.now)) }
+        ensures files { IfOk result (λ G. G.files ≡ size_of self.now) }
+        ensures label { IfOk result (λ G. G.next_label ≡ size_of self.now) }
+        ensures few { size_of self.now ≤ MAX_FILES }
+    {
+        Draft::copied(
+            self.alloc,
+            self.kings.as_slice(),
+            self.classes.as_slice(),
             self.pairs.as_slice(),
-            self.labels[a as usize],
-            self.labels[b as usize],
         )
     }
 
-    /// Whether the other file is the king of another group of the file's class.
-    fn is_alternate(&self, file: u32, other: u32) -> bool
-        requires known { file < self.now.files }
-        requires other_known { other < self.now.files }
-        ensures { (R : Relations) → Keeps self.now R → result ≡ is_alternate_of R file other }
+    /// The groups of a draft, with each class named by its least file.
+    pub fn of_draft(alloc: Global, draft: Draft) -> Result<Groups, NoMemory>
+        requires few { draft.files ≤ MAX_FILES }
+        requires held { (R : Relations) × Holds draft R }
+        ensures size { IfOk result (λ G. size_of G ≡ draft.files) }
+        ensures relations { (R : Relations) → Holds draft R
+            → IfOk result (λ G. relations_in G ≡ R) }
     {
-        self.is_king(other) && self.are_one_class(file, other) && !self.are_one_group(file, other)
-    }
-
-    /// Whether the other file is the king of a group that isn't related to the file.
-    fn is_not_related(&self, file: u32, other: u32) -> bool
-        requires known { file < self.now.files }
-        requires other_known { other < self.now.files }
-        ensures { (R : Relations) → Keeps self.now R → result ≡ is_not_related_to R file other }
-    {
-        self.is_king(other) && self.are_parted(file, other)
-    }
-
-    fn members(&self, alloc: Global, file: u32) -> Result<FileList, NoMemory>
-        requires { file < self.now.files }
-        ensures { (R : Relations) → Keeps self.now R
-            → IfOk result (λ found. found ≡ members self.now.files R file) }
-    {
-        let mut found = FileList::new(alloc);
-        for member in 0..self.files {
-            if self.are_one_group(file, member) {
-                found.push(FileNo(member))?;
-            }
-        }
-        Ok(found)
-    }
-
-    fn alternates(&self, alloc: Global, file: u32) -> Result<FileList, NoMemory>
-        requires { file < self.now.files }
-        ensures { (R : Relations) → Keeps self.now R
-            → IfOk result (λ found. found ≡ alternates_of self.now.files R file) }
-    {
-        let mut found = FileList::new(alloc);
-        for alternate in 0..self.files {
-            if self.is_alternate(file, alternate) {
-                found.push(FileNo(alternate))?;
-            }
-        }
-        Ok(found)
-    }
-
-    fn not_related(&self, alloc: Global, file: u32) -> Result<FileList, NoMemory>
-        requires { file < self.now.files }
-        ensures { (R : Relations) → Keeps self.now R
-            → IfOk result (λ found. found ≡ not_related_to self.now.files R file) }
-    {
-        let mut found = FileList::new(alloc);
-        for stranger in 0..self.files {
-            if self.is_not_related(file, stranger) {
-                found.push(FileNo(stranger))?;
-            }
-        }
-        Ok(found)
-    }
-
-    /// How a file stands.
-    pub fn standing(&self, alloc: Global, file: FileNo) -> Result<FileRelations, NoMemory>
-        requires { file.0 < self.now.files }
-        ensures { (R : Relations) → Keeps self.now R
-            → IfOk result (λ found. found ≡ standing_of self.now.files R file) }
-    {
-        Ok(FileRelations {
-            king: FileNo(self.kings[file.0 as usize]),
-            members: self.members(alloc, file.0)?,
-            alternates: self.alternates(alloc, file.0)?,
-            not_related: self.not_related(alloc, file.0)?,
+        let mut draft = draft;
+        draft.name_classes(alloc)?;
+        Ok(Groups {
+            alloc,
+            kings: draft.kings,
+            classes: draft.labels,
+            pairs: draft.pairs,
         })
+    }
+
+    fn are_one_group(&self, a: u32, b: u32) -> bool
+        requires a_known { a < size_of self.now }
+        requires b_known { b < size_of self.now }
+        ensures { result ≡ of_one_group (relations_in self.now) a b }
+    {
+        self.king_of(FileNo(a)).0 == self.king_of(FileNo(b)).0
+    }
+
+    // Whether a file is the king of a group of the other's class.
+    fn is_king_beside(&self, other: u32, file: u32) -> bool
+        requires other_known { other < size_of self.now }
+        requires known { file < size_of self.now }
+        ensures { result ≡ is_king_beside (relations_in self.now) other file }
+    {
+        self.king_of(FileNo(file)).0 == file && self.are_one_class(other, file)
+    }
+
+    fn are_one_class(&self, a: u32, b: u32) -> bool
+        requires a_known { a < size_of self.now }
+        requires b_known { b < size_of self.now }
+        ensures { result ≡ (relations_in self.now).alike a b }
+    {
+        self.classes[a as usize] == self.classes[b as usize]
+    }
+
+    // Whether a file names a class that isn't related to the other's.
+    fn names_unrelated(&self, other: u32, file: u32) -> bool
+        requires other_known { other < size_of self.now }
+        requires known { file < size_of self.now }
+        ensures { result ≡ names_unrelated (relations_in self.now) other file }
+    {
+        self.class_of(FileNo(file)).0 == file && self.is_not_related(FileNo(other), FileNo(file))
+    }
+
+    /// The least file after a place that is of the group of `king`. The place may be any number, or the
+    /// front. It counts as one read, and may look at every file.
+    pub fn member_after<L: Ledger>(
+        &self,
+        king: FileNo,
+        after: Option<FileNo>,
+        steps: &mut Steps<L>,
+    ) -> Option<FileNo>
+        requires { king.0 < size_of self.now }
+        ensures found { let R = relations_in self.now in
+            result ≡ next_of (size_of self.now) after (of_one_group R king.0) }
+        ensures steps { steps.new ≡ steps.old + 1 }
+    {
+        steps.tick();
+        for file in start_after(after)..self.len() {
+            if self.are_one_group(king.0, file) {
+                return Some(FileNo(file));
+            }
+        }
+        None
+    }
+
+    /// The least king after a place that is of the class of `class`. The place may be any number, or the
+    /// front. It counts as one read, and may look at every file.
+    pub fn king_after<L: Ledger>(
+        &self,
+        class: FileNo,
+        after: Option<FileNo>,
+        steps: &mut Steps<L>,
+    ) -> Option<FileNo>
+        requires { class.0 < size_of self.now }
+        ensures found { let R = relations_in self.now in
+            result ≡ next_of (size_of self.now) after (is_king_beside R class.0) }
+        ensures steps { steps.new ≡ steps.old + 1 }
+    {
+        steps.tick();
+        for file in start_after(after)..self.len() {
+            if self.is_king_beside(class.0, file) {
+                return Some(FileNo(file));
+            }
+        }
+        None
+    }
+
+    /// The least file after a place that names a class which is a not-related pair with the class of
+    /// `class`. The place may be any number, or the front. It counts as one read, and may look at every
+    /// pair for every file.
+    pub fn not_related_after<L: Ledger>(
+        &self,
+        class: FileNo,
+        after: Option<FileNo>,
+        steps: &mut Steps<L>,
+    ) -> Option<FileNo>
+        requires { class.0 < size_of self.now }
+        ensures found { let R = relations_in self.now in
+            result ≡ next_of (size_of self.now) after (names_unrelated R class.0) }
+        ensures steps { steps.new ≡ steps.old + 1 }
+    {
+        steps.tick();
+        for file in start_after(after)..self.len() {
+            if self.names_unrelated(class.0, file) {
+                return Some(FileNo(file));
+            }
+        }
+        None
+    }
+}
+
+/// The first number that comes after a place, or the last of all numbers.
+fn start_after(after: Option<FileNo>) -> u32
+    ensures before { (g : ℕ) → g < result → is_past after g ≡ false }
+    ensures past { (g : ℕ) → result ≤ g → g < u32.MAX → is_past after g ≡ true }
+{
+    match after {
+        Some(file) => file.0.saturating_add(1),
+        None => 0,
     }
 }

@@ -2,12 +2,16 @@
 //! classes of alternates, and classes that are not related.
 #![tactic(auto)]
 
+mod draft;
+mod group_plan;
 mod groups;
 mod numbers;
 mod related;
 mod rows;
 mod theorems;
 
+pub use group_plan::GroupPlan;
+pub use groups::Groups;
 pub use related::relations_of;
 pub use rows::worked_rows;
 pub use theorems::laws;

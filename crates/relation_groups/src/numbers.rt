@@ -1,6 +1,7 @@
-ghost use Rattle.std.specs.Prelude.{◌≡◌, map, filter, not, IfOk};
+ghost use Rattle.std.specs.Prelude.{◌≡◌, ◌<◌, ◌^◌, ℕ, length, map, filter, not, All, IfOk, slice_index};
 ghost use Rattle.std.specs.List.{range_with_len};
-ghost use Rattle.relation_groups.specs.Numbers.{renamed, pair_renamed, is_either, is_within, has};
+ghost use Rattle.relation_groups.specs.Numbers.{renamed, pair_renamed, pair_at, are_below, is_either, is_within, has, least_place};
+ghost use Rattle.relation_groups.specs.Reading.{at};
 
 use media_types::NoMemory;
 use std::alloc::Global;
@@ -55,4 +56,55 @@ pub fn has_pair(pairs: &[(u32, u32)], one: u32, other: u32) -> bool
 {
     pairs.iter().any(|pair| (pair.0 == one && pair.1 == other)
         || (pair.1 == one && pair.0 == other))
+}
+
+/// For each label below the end the least place at which it stands, or the number of places where it
+/// stands nowhere.
+pub fn least_places(alloc: Global, labels: &[u32], end: u32) -> Result<Vec<u32>, NoMemory>
+    requires few { length labels.now < 2 ^ 32 }
+    requires below { All (λ l. l < end) labels.now }
+    ensures len { IfOk result (λ v. length v.items ≡ end) }
+    ensures least { IfOk result (λ v. (l : ℕ) → l < end
+        → slice_index v.items l ≡ least_place labels.now l) }
+{
+    let mut places = vec![in alloc; labels.len() as u32; end as usize]?;
+    for place in (0..labels.len()).rev() {
+        places[labels[place] as usize] = place as u32;
+    }
+    Ok(places)
+}
+
+/// The number that a list has at a place, or the place itself behind its end.
+fn number_at(numbers: &[u32], place: u32) -> u32
+    ensures { result ≡ at numbers.now place }
+{
+    match numbers.get(place as usize) {
+        Some(number) => *number,
+        None => place,
+    }
+}
+
+/// Replaces each number by what the list has at its place.
+pub fn replace_each(numbers: &mut Vec<u32>, by: &[u32])
+    ensures { numbers.new.items ≡ map (at by.now) numbers.old.items }
+{
+    for number in numbers.iter_mut() {
+        *number = number_at(by, *number);
+    }
+}
+
+/// Replaces each number of each pair by what the list has at its place.
+pub fn replace_in_pairs(pairs: &mut Vec<(u32, u32)>, by: &[u32])
+    ensures { pairs.new.items ≡ map (pair_at by.now) pairs.old.items }
+{
+    for pair in pairs.iter_mut() {
+        *pair = (number_at(by, pair.0), number_at(by, pair.1));
+    }
+}
+
+/// Keeps the pairs whose numbers are both below the end.
+pub fn keep_below(pairs: &mut Vec<(u32, u32)>, end: u32)
+    ensures { pairs.new.items ≡ filter (are_below end) pairs.old.items }
+{
+    pairs.retain(|pair| pair.0 < end && pair.1 < end);
 }

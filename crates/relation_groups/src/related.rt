@@ -2,7 +2,7 @@ ghost use Rattle.std.specs.Prelude.{◌≡◌, ◌<◌, ◌+◌, ◌^◌, length
 ghost use Rattle.relation_groups.specs.Relations.{AreAmong, relations, relations_at};
 ghost use Rattle.relation_groups.specs.Kept.{Keeps};
 
-use crate::groups::Groups;
+use crate::draft::Draft;
 use media_types::{Decision, DecisionList, FileNo, FileRelations, NoMemory};
 use std::alloc::Global;
 
@@ -26,13 +26,13 @@ pub fn relations_of(
 }
 
 /// The groups that the decisions make.
-fn folded(alloc: Global, files: u32, decisions: &[Decision]) -> Result<Groups, NoMemory>
+fn folded(alloc: Global, files: u32, decisions: &[Decision]) -> Result<Draft, NoMemory>
     requires among { AreAmong files decisions.now }
     requires room { files + length decisions.now < 2 ^ 32 }
     ensures files { IfOk result (λ groups. groups.files ≡ files) }
     ensures kept { IfOk result (λ groups. Keeps groups (relations decisions.now)) }
 {
-    let mut groups = Groups::new(alloc, files)?;
+    let mut groups = Draft::new(alloc, files)?;
     for decision in decisions {
         groups.decide(*decision)?;
     }

@@ -1,0 +1,58 @@
+ghost use Rattle.std.specs.Prelude.{◌≡◌, ◌<◌, ◌≤◌, IfOk};
+ghost use Rattle.media_types.specs.declared.limits.TheConstants.{MAX_FILES};
+ghost use Rattle.relation_groups.specs.Kept.{Holds};
+ghost use Rattle.relation_groups.specs.Reading.{IsPlanFor, relations_after, relations_in, size_of};
+ghost use Rattle.relation_groups.specs.Relations.{Relations};
+
+use crate::draft::Draft;
+use crate::groups::Groups;
+use media_types::{FileNo, NoMemory};
+use std::alloc::Global;
+use std::marker::Model;
+
+/// A change of the groups that is ready to be carried out. Dropped, it changes nothing.
+#[derive(Drop)]
+pub struct GroupPlan {
+    groups: Groups,
+}
+
+impl Model for GroupPlan {
+    ghost use Rattle.relation_groups.specs.Reading.{Planned};
+
+    ghost Value = { Planned };
+
+    ghost view = { λ plan. record { after = plan.groups } };
+}
+
+impl GroupPlan {
+    /// The plan that ends with a draft.
+    pub fn of_draft(alloc: Global, draft: Draft) -> Result<GroupPlan, NoMemory>
+        requires few { draft.files ≤ MAX_FILES }
+        requires held { (R : Relations) × Holds draft R }
+        ensures size { IfOk result (λ plan. size_of plan.after ≡ draft.files) }
+        ensures relations { (R : Relations) → Holds draft R
+            → IfOk result (λ plan. relations_in plan.after ≡ R) }
+    {
+        Ok(GroupPlan {
+            groups: Groups::of_draft(alloc, draft)?,
+        })
+    }
+
+    /// The groups as they will be.
+    pub fn into_groups(self) -> Groups
+        ensures { result ≡ self.after }
+    {
+        self.groups
+    }
+
+    /// Whether the classes that these files will be of will be a not-related pair, once the plan is carried
+    /// out on the groups that it was made of. It may look at every pair.
+    pub fn is_not_related(&self, _base: &Groups, c: FileNo, d: FileNo) -> bool
+        requires fits { IsPlanFor self.now _base.now }
+        requires c_known { c.0 < size_of _base.now }
+        requires d_known { d.0 < size_of _base.now }
+        ensures { result ≡ (relations_after self.now _base.now).unrelated c.0 d.0 }
+    {
+        self.groups.is_not_related(c, d)
+    }
+}
