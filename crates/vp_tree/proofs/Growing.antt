@@ -1,0 +1,128 @@
+-- An insertion under way: the nodes on the way up to the next one have grown.
+use Rattle.std.proofs.Common.{◌≡◌, ◌∙◌, ℕ, ◌+◌, ◌-◌, ◌<◌, ◌≤◌, ◌==◌, ◌||◌, Bool, true, false, cond, List, [], ◌∷◌, length, Option, Some, None, refl, sym, ap, inl, inr, arith}
+use Rattle.std.specs.Option.{option_map_or}
+use Rattle.std.proofs.Math.ListN.{set}
+use Rattle.std.proofs.lemmas.Bool.Decides.{eqb_tells}
+use Rattle.std.proofs.lemmas.List.{get_or-set_same, get_or-set_other, length-set}
+use Rattle.media_types.specs.declared.hash.Hash64.{Hash64}
+use Rattle.media_types.specs.declared.numbers.HashNo.{HashNo}
+use Rattle.vp_tree.specs.declared.node.NodeView.{NodeView}
+use Rattle.vp_tree.specs.Nodes.{leaf, node_at, at_part, size}
+use Rattle.vp_tree.specs.Placing.{is_within, next_of, way, is_on, grown}
+use Rattle.vp_tree.specs.Shape.{IsTree}
+use Rattle.vp_tree.proofs.Branches.{total-step}
+use Rattle.vp_tree.proofs.Ways.{left_way, next-later, way-step, way_in-after, on_rest, on_first}
+
+pub record IsGrowing (ns : List NodeView) (number : HashNo) (w : Hash64) (rows : List NodeView) (next : Option HashNo) : Type 0 where
+  pub len : length rows ≡ length ns
+  pub inside : (c : HashNo) → next ≡ Some c → (c.0 < length ns) × (size ns c.0 ≤ length ns)
+  pub on : (k : ℕ) → is_on (left_way ns w next) k ≡ true → is_on (way ns w) k ≡ true
+  pub each : (k : ℕ) → k < length ns
+      → node_at rows k ≡ cond (is_on (left_way ns w next) k) (node_at ns k) (cond (is_on (way ns w) k) (grown number w (node_at ns k)) (node_at ns k))
+
+none_some : (c : HashNo) → None ≡ Some c → ⊥
+none_some c e = cc
+
+no_on : (k : ℕ) → is_on [] k ≡ true → ⊥
+no_on k e = cc
+
+first_is : (c : HashNo) → Some (record { 0 = 0 }) ≡ Some c → c.0 ≡ 0
+first_is c e = ap (λ o. option_map_or (λ (d : HashNo). d.0) o 0) (sym e)
+
+or_true : (b c : Bool) → c ≡ true → (b || c) ≡ true
+or_true true c e = refl
+or_true false c e = e
+
+not_on : (b : Bool) → (b ≡ true → ⊥) → b ≡ false
+not_on true h = absurd (h refl)
+not_on false h = refl
+
+twice : (b : Bool) (x y : NodeView) → x ≡ cond b x (cond b y x)
+twice true x y = refl
+twice false x y = refl
+
+no_way : (ns : List NodeView) (w : Hash64) → length ns ≡ 0 → way ns w ≡ []
+no_way [] w e = refl
+no_way (x ∷ ns) w e = absurd (omega (arith, e))
+
+-- at the beginning
+pub growing-none : (ns : List NodeView) (number : HashNo) (w : Hash64) → length ns ≡ 0 → IsGrowing ns number w ns None
+growing-none ns number w e = record {
+  len = refl;
+  inside = λ c h. absurd (none_some c h);
+  on = λ k h. absurd (no_on k h);
+  each = λ k lt. absurd (omega (arith, lt, e));
+}
+
+pub growing-first : (ns : List NodeView) (number : HashNo) (w : Hash64) → IsTree ns → 0 < length ns → IsGrowing ns number w ns (Some (record { 0 = 0 }))
+growing-first ns number w T some = record {
+  len = refl;
+  inside = λ c h. (omega (arith, first_is c h, some), omega (arith, ap (size ns) (first_is c h), T.linked.all some));
+  on = λ k h. h;
+  each = λ k lt. twice (is_on (way ns w) k) (node_at ns k) (grown number w (node_at ns k));
+}
+
+next_if-size : (b : Bool) (x y : Option HashNo) (F : ℕ → ℕ) (c : HashNo) → cond b x y ≡ Some c → F c.0 ≤ at_part x F + at_part y F
+next_if-size true x y F c e = rw e (omega arith)
+next_if-size false x y F c e = rw e (omega arith)
+
+next_from-size : (o : Option ℕ) (node : NodeView) (w : Hash64) (F : ℕ → ℕ) (c : HashNo)
+    → option_map_or (λ r. cond (is_within node r w) node.inner node.outer) o None ≡ Some c → F c.0 ≤ at_part node.inner F + at_part node.outer F
+next_from-size None node w F c e = absurd (none_some c e)
+next_from-size (Some r) node w F c e = next_if-size (is_within node r w) node.inner node.outer F c e
+
+next-size : (ns : List NodeView) (w : Hash64) (k : ℕ) (c : HashNo) → IsTree ns → k < length ns → next_of (node_at ns k) w ≡ Some c → size ns c.0 ≤ size ns k
+next-size ns w k c T lt e =
+    omega (arith, total-step ns (λ _. 1) k T.linked.later lt, next_from-size (node_at ns k).radius (node_at ns k) w (size ns) c e)
+
+later_way : (ns : List NodeView) (w : Hash64) (k : ℕ) (next : Option HashNo) → IsTree ns
+    → ((c : HashNo) → next ≡ Some c → (k < c.0) × (c.0 < length ns)) → is_on (left_way ns w next) k ≡ false
+later_way ns w k None T h = refl
+later_way ns w k (Some c) T h =
+    not_on (is_on (left_way ns w (Some c)) k) (λ on. let after : (c.0 ≤ k) × (k < length ns) = way_in-after (length ns) ns w c.0 k T.linked.later (h c refl).1 on in omega (arith, after.0, (h c refl).0))
+
+-- the node that is read is still as it was
+pub growing-node : (ns : List NodeView) (number : HashNo) (w : Hash64) (rows : List NodeView) (at : HashNo) → IsTree ns
+    → IsGrowing ns number w rows (Some at) → node_at rows at.0 ≡ node_at ns at.0
+growing-node ns number w rows at T G =
+    let lt : at.0 < length ns = (G.inside at refl).0 in
+    let first : is_on (left_way ns w (Some at)) at.0 ≡ true =
+    ap (λ ks. is_on ks at.0) (way-step ns w at.0 T.linked.later lt) ∙ on_first at.0 (left_way ns w (next_of (node_at ns at.0) w)) in
+    G.each at.0 lt ∙ ap (λ b. cond b (node_at ns at.0) (cond (is_on (way ns w) at.0) (grown number w (node_at ns at.0)) (node_at ns at.0))) first
+
+same_node : (ns : List NodeView) (number : HashNo) (w : Hash64) (rows : List NodeView) (at : HashNo) (k : ℕ) → IsTree ns
+    → IsGrowing ns number w rows (Some at) → at.0 < length ns → at.0 ≡ k
+    → node_at (set rows at.0 (grown number w (node_at ns at.0))) k
+    ≡ cond (is_on (left_way ns w (next_of (node_at ns at.0) w)) k) (node_at ns k) (cond (is_on (way ns w) k) (grown number w (node_at ns k)) (node_at ns k))
+same_node ns number w rows at k T G lt same =
+    let off : is_on (left_way ns w (next_of (node_at ns at.0) w)) at.0 ≡ false =
+    later_way ns w at.0 (next_of (node_at ns at.0) w) T (λ c e. next-later ns w at.0 c T.linked.later lt e) in
+    let on : is_on (way ns w) at.0 ≡ true =
+    G.on at.0 (ap (λ ks. is_on ks at.0) (way-step ns w at.0 T.linked.later lt) ∙ on_first at.0 (left_way ns w (next_of (node_at ns at.0) w))) in
+    rw (← same) (rw (off, on) (get_or-set_same rows at.0 (grown number w (node_at ns at.0)) (leaf (record { 0 = 0 })) (omega (arith, lt, G.len))))
+
+-- one node more has grown
+pub growing-more : (ns : List NodeView) (number : HashNo) (w : Hash64) (rows : List NodeView) (at : HashNo) → IsTree ns
+    → IsGrowing ns number w rows (Some at)
+    → IsGrowing ns number w (set rows at.0 (grown number w (node_at ns at.0))) (next_of (node_at ns at.0) w)
+growing-more ns number w rows at T G =
+    let lt : at.0 < length ns = (G.inside at refl).0 in
+    let step : left_way ns w (Some at) ≡ at.0 ∷ left_way ns w (next_of (node_at ns at.0) w) = way-step ns w at.0 T.linked.later lt in
+    record {
+      len = length-set rows at.0 (grown number w (node_at ns at.0)) ∙ G.len;
+      inside = λ c e. ((next-later ns w at.0 c T.linked.later lt e).1, omega (arith, next-size ns w at.0 c T lt e, (G.inside at refl).1));
+      on = λ k h. G.on k (ap (λ ks. is_on ks k) step ∙ or_true (at.0 == k) (is_on (left_way ns w (next_of (node_at ns at.0) w)) k) h);
+      each = λ k kn. elim (eqb_tells at.0 k) [
+        | inl same ↦ same_node ns number w rows at k T G lt same.1
+        | inr other ↦
+            get_or-set_other rows at.0 k (grown number w (node_at ns at.0)) (leaf (record { 0 = 0 })) (λ e. other.1 (sym e))
+            ∙ G.each k kn
+            ∙ ap (λ b. cond b (node_at ns k) (cond (is_on (way ns w) k) (grown number w (node_at ns k)) (node_at ns k)))
+            (ap (λ ks. is_on ks k) step ∙ on_rest at.0 k (left_way ns w (next_of (node_at ns at.0) w)) other.1)
+      ];
+    }
+
+pub fewer-left : (n at : ℕ) (next : Option HashNo) → at < n → ((c : HashNo) → next ≡ Some c → (at < c.0) × (c.0 < n))
+    → option_map_or (λ (c : HashNo). n - c.0) next 0 < n - at
+fewer-left n at None lt h = omega arith
+fewer-left n at (Some c) lt h = omega (arith, (h c refl).0, (h c refl).1)

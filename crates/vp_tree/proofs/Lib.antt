@@ -1,0 +1,9 @@
+pub mod Branches
+pub mod Finding
+pub mod Growing
+pub mod Grown
+pub mod Metric
+pub mod Placed
+pub mod Sorting
+pub mod Tables
+pub mod Ways

@@ -1,0 +1,6 @@
+pub mod Nodes
+pub mod Placing
+pub mod Searching
+pub mod Shape
+pub mod Spared
+pub mod Stored

@@ -1,0 +1,166 @@
+ghost use Rattle.std.specs.Prelude.{◌≡◌, ◌+◌, ◌<◌, ◌≤◌, [], ◌++◌, length, IfOk, OnOk, nat_le, if◌then◌else◌, ◌∷◌, All, ◌≢◌, None};
+ghost use Rattle.std.specs.Option.{option_to_list};
+ghost use Rattle.vp_tree.specs.Nodes.{node_at};
+ghost use Rattle.vp_tree.specs.Placing.{CanTake, IsPlaced, way};
+ghost use Rattle.vp_tree.specs.Searching.{filter_of, hit, opens_inner, opens_outer, open_inner, open_outer, reads};
+ghost use Rattle.vp_tree.specs.Shape.{IsTree};
+
+use crate::hits::HitList;
+use crate::node::NodeView;
+use crate::placing::grow_way;
+use crate::plan::InsertPlan;
+use crate::table::NodeTable;
+use media_types::{Hash64, HashNo, NoMemory, Steps, distance};
+use std::alloc::Global;
+use std::marker::Model;
+use std::sync::ledger::Ledger;
+
+/// A metric tree over distinct words. Each is named by its number: its place in the order in which
+/// they were inserted.
+///
+/// Contracts see it as the list of its nodes, and the room for more.
+#[derive(Drop)]
+pub struct Tree {
+    alloc: Global,
+    table: NodeTable,
+}
+
+impl Model for Tree {
+    ghost use Rattle.vp_tree.specs.declared.node.NodeView.{NodeView};
+    ghost use Rattle.spare_tables.specs.Table.{Table};
+    ghost use Rattle.vp_tree.specs.Shape.{IsTree};
+
+    ghost Value = { Table NodeView };
+
+    ghost view = { λ tree. tree.table };
+
+    ghost invariant = { λ tree. IsTree tree.table.rows };
+}
+
+impl Tree {
+    /// The tree of no words. It takes no memory yet.
+    pub fn new(alloc: Global) -> Tree
+        ensures { result.rows ≡ [] }
+    {
+        Tree {
+            alloc,
+            table: NodeTable::new(alloc),
+        }
+    }
+
+    /// The number of words, at most 4,000,000.
+    pub fn len(&self) -> u32
+        ensures len { result ≡ length self.now.rows }
+        ensures tree { IsTree self.now.rows }
+    {
+        self.table.len() as u32
+    }
+
+    /// All that is kept of a node.
+    pub fn node(&self, at: HashNo) -> NodeView
+        requires { at.0 < length self.now.rows }
+        ensures { result ≡ node_at self.now.rows at.0 }
+    {
+        self.table.node(at.0 as usize)
+    }
+
+    /// Makes room for a word. It changes nothing else.
+    pub fn plan_insert(&mut self, word: Hash64) -> Result<InsertPlan, NoMemory>
+        requires few { length self.old.rows < 4000000 }
+        requires other { All (λ node. node.word ≢ word) self.old.rows }
+        ensures rows { self.new.rows ≡ self.old.rows }
+        ensures plan { IfOk result (λ plan. plan.word ≡ word) }
+        ensures ready { OnOk result (CanTake self.new word) }
+    {
+        self.table.reserve_one()?;
+        Ok(InsertPlan { word })
+    }
+
+    /// Places the word of a plan, and gives it its number.
+    ///
+    /// It reads the nodes on the word's way, which may be all nodes where their distances are alike.
+    /// Nothing asks for a branch to be built anew yet, so there is no second number.
+    pub fn commit_insert<L: Ledger>(
+        &mut self,
+        plan: InsertPlan,
+        steps: &mut Steps<L>,
+    ) -> (HashNo, Option<HashNo>)
+        requires { CanTake self.old plan.word }
+        ensures placed { IsPlaced self.old.rows self.new.rows plan.word }
+        ensures spare { self.old.spare ≤ self.new.spare + 1 }
+        ensures number { result.0.0 ≡ length self.old.rows }
+        ensures branch { result.1 ≡ None }
+        ensures steps { steps.new ≡ steps.old + length (way self.old.rows plan.word) }
+    {
+        let number = HashNo(self.len());
+        grow_way(&mut self.table, number, plan.word, steps);
+        self.table.push_leaf(plan.word);
+        (number, None)
+    }
+
+    /// The words within a distance of the query.
+    ///
+    /// It reads only the branches that the distance doesn't rule out: few where it is small, and all
+    /// nodes where it is large. It takes memory for the words that it finds and for the branches that
+    /// are still to be read.
+    pub fn search<L: Ledger>(
+        &self,
+        query: Hash64,
+        within: u32,
+        steps: &mut Steps<L>,
+    ) -> Result<HitList, NoMemory>
+        ensures found { IfOk result (λ hits. hits ≡ filter_of self.now.rows query within) }
+        ensures steps { OnOk result (steps.new ≡ steps.old + reads self.now.rows query within) }
+        ensures at_most { steps.new ≤ steps.old + reads self.now.rows query within }
+    {
+        let mut hits = Vec::new(self.alloc);
+        let mut stack = Vec::new(self.alloc);
+        if self.len() > 0 {
+            stack.push(HashNo(0))?;
+        }
+        while let Some(at) = stack.pop() {
+            self.visit(at, query, within, &mut stack, &mut hits, steps)?;
+        }
+        hits.sort_unstable_by_key(|hit: &(HashNo, u32)| hit.0.0);
+        Ok(HitList::from_rows(hits))
+    }
+
+    /// Reads a node: puts it to the hits where it is one, and the parts that may have hits on the stack.
+    fn visit<L: Ledger>(
+        &self,
+        at: HashNo,
+        query: Hash64,
+        within: u32,
+        stack: &mut Vec<HashNo>,
+        hits: &mut Vec<(HashNo, u32)>,
+        steps: &mut Steps<L>,
+    ) -> Result<(), NoMemory>
+        requires { at.0 < length self.now.rows }
+        ensures stack { OnOk result (let node = node_at self.now.rows at.0 in
+            stack.new.items ≡ stack.old.items ++ option_to_list (open_inner node query within)
+            ++ option_to_list (open_outer node query within)) }
+        ensures hits { OnOk result (let found = hit self.now.rows query at.0 in
+            hits.new.items ≡ (if nat_le found.1 within then hits.old.items ++ found ∷ [] else hits.old.items)) }
+        ensures steps { steps.new ≡ steps.old + 1 }
+    {
+        let node = self.table.read(at, steps);
+        let away = distance(query, node.word);
+        if away <= within {
+            hits.push((at, away))?;
+        }
+        if let Some(radius) = node.radius.bits() {
+            let radius = u64::from(radius);
+            if u64::from(away) <= radius + u64::from(within)
+                && let Some(inner) = node.inner.child()
+            {
+                stack.push(inner)?;
+            }
+            if u64::from(away) + u64::from(within) > radius
+                && let Some(outer) = node.outer.child()
+            {
+                stack.push(outer)?;
+            }
+        }
+        Ok(())
+    }
+}
