@@ -18,7 +18,7 @@ use Rattle.media_types.specs.declared.hash.Sha.{Sha}
 use Rattle.media_types.specs.declared.limits.TheConstants.{MAX_FILES}
 use Rattle.media_types.specs.contracts.hash.ShaPartialEq.TheImpl.{eq-value}
 use Rattle.file_records.specs.declared.file_row.FileRow.{FileRow}
-use Rattle.file_records.specs.Indexing.{IsIndexOf}
+use Rattle.file_records.specs.Indexing.{IsSound}
 use Rattle.file_records.specs.Lookup.{file_with, IsUnknown, AreDistinct}
 use Rattle.file_records.specs.Rows.{AreFewHashes}
 
@@ -120,8 +120,8 @@ distinct_with : (file : FileRow) (files : List FileRow) → AreDistinct files �
 distinct_with file files distinct unknown = all_pairs_push (λ a b. a.sha ≢ b.sha) files file distinct unknown
 
 pub index_of_pushed : (keys after : List Sha) (files rows : List FileRow) (file : FileRow) →
-    IsIndexOf keys files → IsUnknown file.sha files → AreFewHashes file.hashes → length files < MAX_FILES →
-    after ≡ insert_key eq-value.it keys file.sha → rows ≡ files ++ file ∷ [] → IsIndexOf after rows
+    IsSound keys files → IsUnknown file.sha files → AreFewHashes file.hashes → length files < MAX_FILES →
+    after ≡ insert_key eq-value.it keys file.sha → rows ≡ files ++ file ∷ [] → IsSound after rows
 index_of_pushed keys after files rows file index unknown hashes few inserted pushed = record {
   in_order = inserted ∙ ap (λ ks. insert_key eq-value.it ks file.sha) index.in_order ∙ index_with file files unknown ∙ ap shas_of (sym pushed);
   distinct = rw pushed (distinct_with file files index.distinct unknown);

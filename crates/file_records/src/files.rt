@@ -37,14 +37,14 @@ impl Model for Files {
     ghost Value = { Table Row };
 
     ghost use Rattle.indexmap.specs.IndexSet.{spare as index_spare};
-    ghost use Rattle.file_records.specs.Indexing.{IsIndexOf};
+    ghost use Rattle.file_records.specs.Indexing.{IsSound};
 
     ghost view = { λ files. record {
       rows = files.rows.rows;
       spare = min (index_spare files.index) files.rows.spare;
     } };
 
-    ghost invariant = { λ files. IsIndexOf files.index.keys files.rows.rows };
+    ghost invariant = { λ files. IsSound files.index.keys files.rows.rows };
 }
 
 impl Files {
