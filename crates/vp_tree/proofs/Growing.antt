@@ -1,5 +1,5 @@
 -- An insertion under way: the nodes on the way up to the next one have grown.
-use Rattle.std.proofs.Common.{◌≡◌, ◌∙◌, ℕ, ◌+◌, ◌-◌, ◌<◌, ◌≤◌, ◌==◌, ◌||◌, Bool, true, false, cond, List, [], ◌∷◌, length, Option, Some, None, refl, sym, ap, inl, inr, arith}
+use Rattle.std.proofs.Common.{◌≡◌, ◌∙◌, ℕ, ◌+◌, ◌-◌, ◌<◌, ◌≤◌, ◌==◌, ◌||◌, Bool, true, false, cond, List, ◌∷◌, length, Option, Some, None, refl, sym, ap, inl, inr, arith}
 use Rattle.std.specs.Option.{option_map_or}
 use Rattle.std.proofs.Math.ListN.{set}
 use Rattle.std.proofs.lemmas.Bool.Decides.{eqb_tells}
@@ -23,12 +23,6 @@ pub record IsGrowing (ns : List NodeView) (number : HashNo) (w : Hash64) (rows :
 none_some : (c : HashNo) → None ≡ Some c → ⊥
 none_some c e = cc
 
-no_on : (k : ℕ) → is_on [] k ≡ true → ⊥
-no_on k e = cc
-
-first_is : (c : HashNo) → Some (record { 0 = 0 }) ≡ Some c → c.0 ≡ 0
-first_is c e = ap (λ o. option_map_or (λ (d : HashNo). d.0) o 0) (sym e)
-
 or_true : (b c : Bool) → c ≡ true → (b || c) ≡ true
 or_true true c e = refl
 or_true false c e = e
@@ -36,31 +30,6 @@ or_true false c e = e
 not_on : (b : Bool) → (b ≡ true → ⊥) → b ≡ false
 not_on true h = absurd (h refl)
 not_on false h = refl
-
-twice : (b : Bool) (x y : NodeView) → x ≡ cond b x (cond b y x)
-twice true x y = refl
-twice false x y = refl
-
-no_way : (ns : List NodeView) (w : Hash64) → length ns ≡ 0 → way ns w ≡ []
-no_way [] w e = refl
-no_way (x ∷ ns) w e = absurd (omega (arith, e))
-
--- at the beginning
-pub growing-none : (ns : List NodeView) (number : HashNo) (w : Hash64) → length ns ≡ 0 → IsGrowing ns number w ns None
-growing-none ns number w e = record {
-  len = refl;
-  inside = λ c h. absurd (none_some c h);
-  on = λ k h. absurd (no_on k h);
-  each = λ k lt. absurd (omega (arith, lt, e));
-}
-
-pub growing-first : (ns : List NodeView) (number : HashNo) (w : Hash64) → IsTree ns → 0 < length ns → IsGrowing ns number w ns (Some (record { 0 = 0 }))
-growing-first ns number w T some = record {
-  len = refl;
-  inside = λ c h. (omega (arith, first_is c h, some), omega (arith, ap (size ns) (first_is c h), T.linked.all some));
-  on = λ k h. h;
-  each = λ k lt. twice (is_on (way ns w) k) (node_at ns k) (grown number w (node_at ns k));
-}
 
 next_if-size : (b : Bool) (x y : Option HashNo) (F : ℕ → ℕ) (c : HashNo) → cond b x y ≡ Some c → F c.0 ≤ at_part x F + at_part y F
 next_if-size true x y F c e = rw e (omega arith)

@@ -54,9 +54,6 @@ last_part outward ns ms w P = ap (λ v. v.outer) P.last
 none_some : (c : HashNo) → None ≡ Some c → ⊥
 none_some c e = cc
 
-no_radius : (r : ℕ) → None ≡ Some r → ⊥
-no_radius r e = cc
-
 some_radius : (r : ℕ) → Some r ≡ None → ⊥
 some_radius r e = cc
 

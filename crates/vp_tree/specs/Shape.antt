@@ -5,6 +5,7 @@ use Rattle.media_types.specs.declared.numbers.HashNo.{HashNo}
 use Rattle.vp_tree.specs.declared.node.NodeView.{NodeView}
 use Rattle.vp_tree.specs.Nodes.{node_at, times, size}
 
+-- the two parts of a node
 pub data Side : Type 0 where
   inward : Side
   outward : Side
@@ -37,7 +38,7 @@ pub record IsWellCut (ns : List NodeView) : Type 0 where
       → r < distance_of (node_at ns j).word (node_at ns k).word
   pub bare : (k : ℕ) (side : Side) → k < length ns → (node_at ns k).radius ≡ None → part side (node_at ns k) ≡ None
 
--- the words are distinct, and each node knows how many are under it
+-- there are at most 4,000,000 nodes, the words are distinct, and each node knows how many are under it
 pub record IsTree (ns : List NodeView) : Type 0 where
   pub few : length ns ≤ 4000000
   pub linked : IsLinked ns

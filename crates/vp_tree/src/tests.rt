@@ -54,6 +54,28 @@ fn assert_as_scan<L: Ledger>(
     Ok(())
 }
 
+fn assert_hits<L: Ledger>(
+    rt: &impl Abort,
+    tree: &Tree,
+    within: u32,
+    want: &[(HashNo, u32)],
+    steps: &mut Steps<L>,
+) -> Result<(), NoMemory> {
+    let hits = tree.search(Hash64(0), within, steps)?;
+    assert_eq!(rt; hits.as_slice(), want);
+    Ok(())
+}
+
+fn assert_root(rt: &impl Abort, tree: &Tree) {
+    assert!(rt; tree.len() == 3);
+    let root = tree.node(HashNo(0));
+    assert_eq!(rt; root.word, Hash64(0));
+    assert_eq!(rt; root.radius, Some(8));
+    assert_eq!(rt; root.inner, Some(HashNo(1)));
+    assert_eq!(rt; root.outer, Some(HashNo(2)));
+    assert_eq!(rt; (root.below, root.built), (2, 0));
+}
+
 fn three_words_in<L: Ledger>(
     rt: &(impl Abort + Threads),
     alloc: Global,
@@ -65,31 +87,14 @@ fn three_words_in<L: Ledger>(
 {
     let mut steps = Steps::<L>::new(rt, blank);
     let mut tree = Tree::new(alloc);
-    for (number, word) in [0, 0xff, 0x1ff].into_iter().enumerate() {
-        let placed = insert(rt, &mut tree, Hash64(word), &mut steps)?;
-        assert_eq!(rt; placed.0 as usize, number);
+    for word in [0, 0xff, 0x1ff] {
+        insert(rt, &mut tree, Hash64(word), &mut steps)?;
     }
-    assert!(rt; tree.len() == 3);
-    let root = NodeView {
-        word: Hash64(0),
-        radius: Some(8),
-        inner: Some(HashNo(1)),
-        outer: Some(HashNo(2)),
-        below: 2,
-        built: 0,
-    };
-    assert_eq!(rt; tree.node(HashNo(0)), root);
-    let near = tree.search(Hash64(0), 8, &mut steps)?;
-    assert_eq!(rt;
-        near.as_slice(),
-        [(HashNo(0), 0), (HashNo(1), 8)].as_slice()
-    );
-    let all = tree.search(Hash64(0), 9, &mut steps)?;
-    assert_eq!(rt;
-        all.as_slice(),
-        [(HashNo(0), 0), (HashNo(1), 8), (HashNo(2), 9)].as_slice()
-    );
-    Ok(())
+    assert_root(rt, &tree);
+    let near = [(HashNo(0), 0), (HashNo(1), 8)];
+    assert_hits(rt, &tree, 8, &near, &mut steps)?;
+    let all = [(HashNo(0), 0), (HashNo(1), 8), (HashNo(2), 9)];
+    assert_hits(rt, &tree, 9, &all, &mut steps)
 }
 
 #[test]
