@@ -3,9 +3,11 @@ pub mod Firsts
 pub mod Folds
 pub mod Leaving
 pub mod Lists
+pub mod Moving
 pub mod Named
 pub mod Naming
 pub mod Nexts
+pub mod Pairs
 pub mod Readings
 pub mod Sound
 pub mod Splits

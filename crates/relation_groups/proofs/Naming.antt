@@ -5,7 +5,7 @@ use Rattle.std.proofs.lemmas.Bool.{false≢true}
 use Rattle.std.proofs.lemmas.Bool.Decides.{nat_tests, Decides-eqb, same_from_decides}
 use Rattle.std.proofs.lemmas.List.{get_or-map, length-map}
 use Rattle.std.proofs.lemmas.Grind.{common_steps}
-use Rattle.std.proofs.lemmas.List.Elements.{filter_passes}
+use Rattle.std.proofs.lemmas.List.Elements.{All-filter, All-map, filter_passes}
 use Rattle.media_types.specs.declared.limits.TheConstants.{MAX_FILES}
 use Rattle.relation_groups.specs.Clusters.{AgreeIn, outside}
 use Rattle.relation_groups.specs.Kept.{AreKept, ReadsAs}
@@ -175,6 +175,19 @@ AreBelow-kept : (n : ℕ) (ps : List (ℕ × ℕ)) → All (λ p. (p.0 < n) × (
 AreBelow-kept n ps =
     λ k d hk. below-both n (get_or (filter (are_below n) ps) k d) (filter_passes (are_below n) ps k d hk)
 
+-- each pair that is left is of names
+named-kept : (n next : ℕ) (names cs : List ℕ) (ps : List (ℕ × ℕ)) → All (λ p. (p.0 < next) × (p.1 < next)) ps
+    → ((l : ℕ) → l < next → at names l < n → at cs (at names l) ≡ at names l)
+    → All (λ p. (at cs p.0 ≡ p.0) × (at cs p.1 ≡ p.1)) (filter (are_below n) (map (pair_at names) ps))
+named-kept n next names cs ps h own =
+    let Named : ℕ × ℕ → Type 0 = λ p. are_below n p ≡ true → (at cs p.0 ≡ p.0) × (at cs p.1 ≡ p.1) in
+    let each : All Named (map (pair_at names) ps) =
+    All-map Named (pair_at names) ps (λ k d hk e.
+    let b = h k d hk in
+    let below = below-both n (pair_at names (get_or ps k d)) e in
+    (own (get_or ps k d).0 b.0 below.0, own (get_or ps k d).1 b.1 below.1)) in
+    λ k d hk. All-filter (are_below n) Named (map (pair_at names) ps) each k d hk (filter_passes (are_below n) (map (pair_at names) ps) k d hk)
+
 -- the names are those of the classes
 class-by_side : (n : ℕ) (ls cs : List ℕ) (R : Relations) → length ls ≡ n → length cs ≡ n
     → ((f : ℕ) → f < n → at cs f ≡ least_place ls (get_or ls f 0))
@@ -230,6 +243,11 @@ named-reads n ks ls names ps next few hk hl hn least R h first =
         one_each = hc ∙ sym hk;
         king = rw hk (λ k d hd. let e = at-within ks k (omega (arith, hd, hk)) in let b = king k (omega (arith, hd, hk)) in grind (arith, common_steps));
         pair = rw hk (AreBelow-kept n (map (pair_at names) ps));
+        named = named-kept n next names cs ps h.pair
+            (λ l lt below.
+            let e = name l lt in
+            let has = least-has ls l (omega (arith, e, below, hl)) in
+            class (at names l) below ∙ ap (λ m. at names (get_or ls m 0)) e ∙ ap (at names) (sym has));
         class = λ f. class_at f (is_below n f) refl ∙ ap (λ P. class_of P f) (sym (read 0));
       };
       read = read;

@@ -56,6 +56,10 @@ push-in_order ks cs ps n hk few h =
       pair =
           let P : ℕ → Type 0 = λ m. All (λ p. (p.0 < m) × (p.1 < m)) ps in
           subst P (sym more) (λ k d hd. let b = h.pair k d hd in (omega (arith, b.0, hk), omega (arith, b.1, hk)));
+      named = λ k d hd.
+          let b = h.named k d hd in
+          let stays : (f : ℕ) → at (cs ++ n ∷ []) f ≡ at cs f = λ f. ap (λ m. at (cs ++ m ∷ []) f) (sym (h.one_each ∙ hk)) ∙ at-push cs f in
+          (stays _ ∙ b.0, stays _ ∙ b.1);
       class = λ f. ap (λ m. at (cs ++ m ∷ []) f) (sym (h.one_each ∙ hk)) ∙ at-push cs f ∙ h.class f
           ∙ ap (λ R. class_of R f) (sym (read-push ks cs ps 0 0 n hk (h.one_each ∙ hk)));
     }
@@ -71,6 +75,7 @@ empty-in_order = record {
   one_each = refl;
   king = λ k d hd. absurd (omega (arith, hd));
   pair = λ k d hd. absurd (omega (arith, hd));
+  named = λ k d hd. absurd (omega (arith, hd));
   class = λ f. sym (alone-class f);
 }
 

@@ -2,6 +2,7 @@
 use Rattle.std.specs.Prelude.{◌≡◌, ◌<◌, ◌≤◌, ℕ, Bool, true, ◌==◌, ◌&&◌, nat_lt, List, length, slice_index_or, All, Option, Some, None, find}
 use Rattle.media_types.specs.declared.limits.TheConstants.{MAX_FILES}
 use Rattle.media_types.specs.declared.numbers.FileNo.{FileNo}
+use Rattle.relation_groups.specs.declared.moves.Move.{Move}
 use Rattle.relation_groups.specs.Clusters.{AgreeIn, IsSplitBy, outside}
 use Rattle.relation_groups.specs.Numbers.{has}
 use Rattle.relation_groups.specs.Relations.{Relations, at_first, class_of, files, is_king}
@@ -45,6 +46,7 @@ pub record AreInOrder (kings classes : List ℕ) (pairs : List (ℕ × ℕ)) : T
   pub one_each : length classes ≡ length kings
   pub king : All (λ k. k < length kings) kings
   pub pair : All (λ p. (p.0 < length kings) × (p.1 < length kings)) pairs
+  pub named : All (λ p. (at classes p.0 ≡ p.0) × (at classes p.1 ≡ p.1)) pairs
   pub class : (f : ℕ) → at classes f ≡ class_of (relations_in (record { kings = kings; classes = classes; pairs = pairs; room = 0 })) f
 
 -- the file comes after the place, which is a number or the front
@@ -64,9 +66,10 @@ is_king_beside R f g = is_king R g && R.alike f g
 abbrev pub names_unrelated : Relations → ℕ → ℕ → Bool
 names_unrelated R f g = class_of R g == g && R.unrelated f g
 
--- what contracts see of a plan: the groups as they will be
+-- what contracts see of a plan: the groups as they will be, and the files that will stand otherwise
 pub record Planned : Type 0 where
   pub after : Kept
+  pub moves : List Move
 
 -- the plan was made of groups of as many files
 unfoldable pub IsPlanFor : Planned → Kept → Type 0

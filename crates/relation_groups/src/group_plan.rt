@@ -1,11 +1,13 @@
 ghost use Rattle.std.specs.Prelude.{◌≡◌, ◌<◌, ◌≤◌, IfOk};
 ghost use Rattle.media_types.specs.declared.limits.TheConstants.{MAX_FILES};
 ghost use Rattle.relation_groups.specs.Kept.{Holds};
+ghost use Rattle.relation_groups.specs.Moves.{moves};
 ghost use Rattle.relation_groups.specs.Reading.{IsPlanFor, relations_after, relations_in, size_of};
 ghost use Rattle.relation_groups.specs.Relations.{Relations};
 
 use crate::draft::Draft;
 use crate::groups::Groups;
+use crate::moves::MoveList;
 use media_types::{FileNo, NoMemory};
 use std::alloc::Global;
 use std::marker::Model;
@@ -14,6 +16,7 @@ use std::marker::Model;
 #[derive(Drop)]
 pub struct GroupPlan {
     groups: Groups,
+    moves: MoveList,
 }
 
 impl Model for GroupPlan {
@@ -21,21 +24,35 @@ impl Model for GroupPlan {
 
     ghost Value = { Planned };
 
-    ghost view = { λ plan. record { after = plan.groups } };
+    ghost view = { λ plan. record {
+      after = plan.groups;
+      moves = plan.moves;
+    } };
 }
 
 impl GroupPlan {
-    /// The plan that ends with a draft.
-    pub fn of_draft(alloc: Global, draft: Draft) -> Result<GroupPlan, NoMemory>
+    /// The plan that leads from these groups to a draft.
+    pub fn of_draft(alloc: Global, base: &Groups, draft: Draft) -> Result<GroupPlan, NoMemory>
         requires few { draft.files ≤ MAX_FILES }
+        requires size { draft.files ≡ size_of base.now }
         requires held { (R : Relations) × Holds draft R }
         ensures size { IfOk result (λ plan. size_of plan.after ≡ draft.files) }
         ensures relations { (R : Relations) → Holds draft R
             → IfOk result (λ plan. relations_in plan.after ≡ R) }
+        ensures moves { (R : Relations) → Holds draft R
+            → IfOk result (λ plan. plan.moves
+            ≡ moves (size_of base.now) (relations_in base.now) R) }
     {
-        Ok(GroupPlan {
-            groups: Groups::of_draft(alloc, draft)?,
-        })
+        let groups = Groups::of_draft(alloc, draft)?;
+        let moves = base.moves_to(&groups)?;
+        Ok(GroupPlan { groups, moves })
+    }
+
+    /// Where the files will stand that will stand otherwise, ascending by file.
+    pub fn moves(&self) -> &MoveList
+        ensures { result.now ≡ self.now.moves }
+    {
+        &self.moves
     }
 
     /// The groups as they will be.

@@ -1,12 +1,14 @@
-ghost use Rattle.std.specs.Prelude.{◌≡◌, ◌≢◌, ◌+◌, ◌<◌, ◌≤◌, ℕ, true, false, length, All, IfOk, OnOk};
+ghost use Rattle.std.specs.Prelude.{◌≡◌, ◌≢◌, ◌+◌, ◌<◌, ◌≤◌, ℕ, true, false, length, vec_len, All, IfOk, OnOk};
 ghost use Rattle.media_types.specs.declared.limits.TheConstants.{MAX_DECISIONS, MAX_FILES};
 ghost use Rattle.relation_groups.specs.Clusters.{IsSplitBy, IsWithin, is_one_of, patched};
+ghost use Rattle.relation_groups.specs.Moves.{Marks, is_moved, move_to, moves};
 ghost use Rattle.relation_groups.specs.Reading.{size_of, relations_in, is_past, next_of, is_king_beside, names_unrelated, IsPlanFor, relations_after};
 ghost use Rattle.relation_groups.specs.Relations.{Relations, at_first, by_code, class_of, of_one_group, relations};
 
 use crate::draft::Draft;
 use crate::group_plan::GroupPlan;
-use crate::numbers::has_pair;
+use crate::moves::{Move, MoveList};
+use crate::numbers::{has_pair, mark_lacking};
 use media_types::{Code, Decision, DecisionList, FileList, FileNo, NoMemory, Steps};
 use std::alloc::Global;
 use std::marker::Model;
@@ -133,12 +135,14 @@ impl Groups {
         ensures fits { IfOk result (λ plan. IsPlanFor plan self.new) }
         ensures after { IfOk result (λ plan. relations_after plan self.new
             ≡ by_code code a.0 b.0 (relations_in self.old)) }
+        ensures moves { let R = relations_in self.old in IfOk result (λ plan. plan.moves
+            ≡ moves (size_of self.old) R (by_code code a.0 b.0 R)) }
         ensures same { self.new ≡ self.old }
         ensures steps { steps.old ≤ steps.new }
     {
         let mut draft = self.draft()?;
         draft.decide(Decision { code, a, b })?;
-        GroupPlan::of_draft(self.alloc, draft)
+        GroupPlan::of_draft(self.alloc, self, draft)
     }
 
     /// Plans to make the decisions of some files anew, from each of the files alone. It copies all lists,
@@ -158,13 +162,16 @@ impl Groups {
         ensures after { let these = is_one_of files.now in IfOk result (λ plan.
             relations_after plan self.new
             ≡ patched these (relations decisions.now) (relations_in self.old)) }
+        ensures moves { let R = relations_in self.old in let these = is_one_of files.now in
+            IfOk result (λ plan. plan.moves
+            ≡ moves (size_of self.old) R (patched these (relations decisions.now) R)) }
         ensures same { self.new ≡ self.old }
         ensures steps { steps.old ≤ steps.new }
     {
         let mut draft = self.draft()?;
         draft.leave_all(files.as_slice());
         draft.decide_all(decisions.as_slice())?;
-        GroupPlan::of_draft(self.alloc, draft)
+        GroupPlan::of_draft(self.alloc, self, draft)
     }
 
     /// Carries a plan out, which was made of these groups as they are. It takes no memory, and there may
@@ -208,6 +215,64 @@ impl Groups {
             classes: draft.labels,
             pairs: draft.pairs,
         })
+    }
+
+    /// The files that stand otherwise in other groups of as many files. It looks at all pairs of the one
+    /// for each pair of the other.
+    pub fn moves_to(&self, after: &Groups) -> Result<MoveList, NoMemory>
+        requires { size_of after.now ≡ size_of self.now }
+        ensures { IfOk result (λ list. list
+            ≡ moves (size_of self.now) (relations_in self.now) (relations_in after.now)) }
+    {
+        let marks = self.changed_classes(after)?;
+        let mut moves = MoveList::new(self.alloc);
+        for file in 0..self.len() {
+            if self.is_moved(after, marks.as_slice(), file) {
+                moves.push(after.place_of(file))?;
+            }
+        }
+        Ok(moves)
+    }
+
+    // By class name whether a class has other not-related pairs in other groups.
+    fn changed_classes(&self, after: &Groups) -> Result<Vec<bool>, NoMemory>
+        requires { size_of after.now ≡ size_of self.now }
+        ensures len { IfOk result (λ marks. vec_len marks ≡ size_of self.now) }
+        ensures marked { IfOk result (λ marks. Marks (size_of self.now) (relations_in self.now)
+            (relations_in after.now) marks.items) }
+    {
+        let mut marks = vec![in self.alloc; false; self.kings.len()]?;
+        mark_lacking(&mut marks, self.pairs.as_slice(), after.pairs.as_slice());
+        mark_lacking(&mut marks, after.pairs.as_slice(), self.pairs.as_slice());
+        Ok(marks)
+    }
+
+    fn is_moved(&self, after: &Groups, marks: &[bool], file: u32) -> bool
+        requires known { file < size_of self.now }
+        requires size { size_of after.now ≡ size_of self.now }
+        requires len { length marks.now ≡ size_of self.now }
+        requires marked { Marks (size_of self.now) (relations_in self.now) (relations_in after.now)
+            marks.now }
+        ensures { result
+            ≡ is_moved (size_of self.now) (relations_in self.now) (relations_in after.now) file }
+    {
+        let file = FileNo(file);
+        let class = self.class_of(file).0;
+        self.king_of(file).0 != after.king_of(file).0
+            || class != after.class_of(file).0
+            || marks[class as usize]
+    }
+
+    fn place_of(&self, file: u32) -> Move
+        requires { file < size_of self.now }
+        ensures { result ≡ move_to (relations_in self.now) (record { 0 = file }) }
+    {
+        let file = FileNo(file);
+        Move {
+            file,
+            king: self.king_of(file),
+            class: self.class_of(file),
+        }
     }
 
     fn are_one_group(&self, a: u32, b: u32) -> bool

@@ -5,6 +5,7 @@
 mod draft;
 mod group_plan;
 mod groups;
+mod moves;
 mod numbers;
 mod related;
 mod rows;
@@ -12,6 +13,7 @@ mod theorems;
 
 pub use group_plan::GroupPlan;
 pub use groups::Groups;
+pub use moves::{Move, MoveList};
 pub use related::relations_of;
 pub use rows::worked_rows;
 pub use theorems::laws;

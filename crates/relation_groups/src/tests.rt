@@ -170,6 +170,10 @@ fn assert_groups<L: Ledger>(
     assert!(rt; groups.len() == 4);
     let plan = groups.plan_decide(ALTERNATES, FileNo(0), FileNo(3), &mut steps)?;
     assert!(rt; !plan.is_not_related(&groups, FileNo(0), FileNo(1)));
+    let moves = plan.moves();
+    assert!(rt; moves.len() == 4);
+    assert_eq!(rt; moves.get(3).king, FileNo(2));
+    assert_eq!(rt; moves.get(3).class, FileNo(0));
     let nothing = groups.plan_refold(&FileList::new(alloc), &DecisionList::new(alloc), &mut steps)?;
     groups.commit(nothing);
     assert_standing(rt, &groups, &mut steps);

@@ -28,3 +28,13 @@ returns-clause-after g c =
     (omega (arith, n, c.requires.a_known)) (omega (arith, n, c.requires.b_known)) held.1 in
     c.of_draft.ensures.relations (by_code c.args.code c.args.a.0 c.args.b.0 R)
     (c.in_ok-decide.ensures.takes.kept R held.0, rw c.in_ok-decide.ensures.takes.files first)
+
+pub returns-clause-moves : goal.returns-clause-moves
+returns-clause-moves g c =
+    let R : Relations = relations_in c.args.self.now in
+    let n = c.in_ok-draft.ensures.files in
+    let held = c.in_ok-draft.ensures.held in
+    let first = decided-of_first c.in_ok-draft.draft.files c.args.code c.args.a.0 c.args.b.0 R
+    (omega (arith, n, c.requires.a_known)) (omega (arith, n, c.requires.b_known)) held.1 in
+    c.of_draft.ensures.moves (by_code c.args.code c.args.a.0 c.args.b.0 R)
+    (c.in_ok-decide.ensures.takes.kept R held.0, rw c.in_ok-decide.ensures.takes.files first)

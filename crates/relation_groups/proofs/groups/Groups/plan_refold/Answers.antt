@@ -48,3 +48,19 @@ returns-clause-after g c =
     (rw c.in_ok-draft.ensures.files at held.1) in
     let done = c.of_draft.ensures.relations (after (all_leave fs R) ds) (made.kept _ (left.kept R held.0), rw size first) in
     rw (sym (refolded fs ds R c.requires.within c.requires.closed)) done
+
+pub returns-clause-moves : goal.returns-clause-moves
+returns-clause-moves g c =
+    let s = c.args.self.now in
+    let fs = c.args.files.now in
+    let ds = c.args.decisions.now in
+    let R : Relations = relations_in s in
+    let held = c.in_ok-draft.ensures.held in
+    let left : Takes c.in_ok-draft.draft c.leave_all.new.self (all_leave fs) = rw c.as_slice.ensures at c.leave_all.ensures.takes in
+    let made : Takes c.leave_all.new.self c.decide_all.new.self (λ Q. after Q ds) = rw c.as_slice-2.ensures at c.in_ok-decide_all.ensures.takes in
+    let size : c.decide_all.new.self.files ≡ size_of s = made.files ∙ left.files ∙ c.in_ok-draft.ensures.files in
+    let first : IsOfFirst (size_of s) (after (all_leave fs R) ds) =
+    refold-of_first (size_of s) fs ds R c.requires.known (within-among (size_of s) fs ds c.requires.known c.requires.within)
+    (rw c.in_ok-draft.ensures.files at held.1) in
+    let done = c.of_draft.ensures.moves (after (all_leave fs R) ds) (made.kept _ (left.kept R held.0), rw size first) in
+    rw (sym (refolded fs ds R c.requires.within c.requires.closed)) done
