@@ -1,7 +1,8 @@
 //! `medialib`: the record keeper of a media library, at the command line.
 #![tactic(auto)]
 
-ghost use Rattle.std.specs.Prelude.{◌≡◌, ◌<◌};
+ghost use Rattle.std.specs.Prelude.{◌≡◌, ◌≢◌, ◌<◌, ◌↔◌, map, string_bytes};
+ghost use Rattle.media_tool.specs.Words.{play_words};
 
 use media_base::{Status, Steps};
 use media_tool::{StdSink, StdSource, run};
@@ -37,6 +38,7 @@ fn run_counted<R: Read + Drop, W: Write + Drop, L: Ledger>(
     requires name { blank.name ≡ L.name }
     requires parts { blank.parts ≡ L.parts }
     requires some { 0 < L.parts }
+    ensures usage { (result ≡ Status.Usage) ↔ (map string_bytes words.now ≢ play_words) }
 {
     let mut source = StdSource::new(reader);
     let mut sink = StdSink::new(writer);
