@@ -7,7 +7,6 @@ use Rattle.std.specs.Str.{bytes_eq}
 use Rattle.std.proofs.lemmas.Bool.{ltb-true, ltb-false, both_ways}
 use Rattle.std.proofs.lemmas.Bool.Decides.{same_from_decides}
 use Rattle.std.proofs.lemmas.List.{length-map, map-append, get_or-map}
-use Rattle.std.proofs.lemmas.List.Elements.{All-push}
 use Rattle.std.proofs.lemmas.List.Quantifiers.{position-Some, all_pairs_push}
 use Rattle.std.proofs.lemmas.List.Sums.{fails_before_first, passes_at_first}
 use Rattle.std.proofs.lemmas.Option.{slice_get-get_or}
@@ -20,7 +19,6 @@ use Rattle.media_types.specs.contracts.hash.ShaPartialEq.TheImpl.{eq-value}
 use Rattle.file_records.specs.declared.file_row.FileRow.{FileRow}
 use Rattle.file_records.specs.Indexing.{IsSound}
 use Rattle.file_records.specs.Lookup.{file_with, IsUnknown, AreDistinct}
-use Rattle.file_records.specs.Rows.{AreFewHashes}
 
 -- the SHA-256 of each file, in order
 abbrev pub shas_of : List FileRow → List Sha
@@ -120,11 +118,10 @@ distinct_with : (file : FileRow) (files : List FileRow) → AreDistinct files �
 distinct_with file files distinct unknown = all_pairs_push (λ a b. a.sha ≢ b.sha) files file distinct unknown
 
 pub index_of_pushed : (keys after : List Sha) (files rows : List FileRow) (file : FileRow) →
-    IsSound keys files → IsUnknown file.sha files → AreFewHashes file.hashes → length files < MAX_FILES →
+    IsSound keys files → IsUnknown file.sha files → length files < MAX_FILES →
     after ≡ insert_key eq-value.it keys file.sha → rows ≡ files ++ file ∷ [] → IsSound after rows
-index_of_pushed keys after files rows file index unknown hashes few inserted pushed = record {
+index_of_pushed keys after files rows file index unknown few inserted pushed = record {
   in_order = inserted ∙ ap (λ ks. insert_key eq-value.it ks file.sha) index.in_order ∙ index_with file files unknown ∙ ap shas_of (sym pushed);
   distinct = rw pushed (distinct_with file files index.distinct unknown);
-  few_hashes = rw pushed (All-push (λ f. AreFewHashes f.hashes) files file index.few_hashes hashes);
   few = rw (pushed, length-append) (omega arith);
 }

@@ -1,6 +1,5 @@
 -- The row of a file.
-use Rattle.std.specs.Prelude.{◌≤◌, List, length, true, None}
-use Rattle.media_types.specs.declared.hash.Hash64.{Hash64}
+use Rattle.std.specs.Prelude.{true, None}
 use Rattle.media_types.specs.declared.new_file.NewFile.{NewFile}
 use Rattle.file_records.specs.declared.file_row.FileRow.{FileRow}
 
@@ -15,7 +14,3 @@ row_of file = record {
   live = true;
   searched = None;
 }
-
--- as many perceptual hashes as a file may have
-abbrev pub AreFewHashes : List Hash64 → Type 0
-AreFewHashes hashes = length hashes ≤ 4

@@ -1,10 +1,10 @@
-use media_types::{HashList, NewFile, Sha};
+use media_types::{FileHashes, NewFile, Sha};
 
 /// What is recorded of a file.
 #[derive(Debug, Drop)]
 pub struct FileRow {
     pub sha: Sha,
-    pub hashes: HashList,
+    pub hashes: FileHashes,
     /// In bytes.
     pub size: u64,
     /// In pixels.

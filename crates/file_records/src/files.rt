@@ -1,9 +1,9 @@
-ghost use Rattle.std.specs.Prelude.{◌≡◌, ◌+◌, ◌<◌, ◌≤◌, ◌↔◌, [], ◌∷◌, ◌++◌, length, None, Some, All, IfOk, IfSome, slice_get};
+ghost use Rattle.std.specs.Prelude.{◌≡◌, ◌+◌, ◌<◌, ◌≤◌, ◌↔◌, [], ◌∷◌, ◌++◌, length, None, Some, IfOk, IfSome, slice_get};
 ghost use Rattle.std.specs.Option.{option_map};
 ghost use Rattle.media_types.specs.declared.limits.TheConstants.{MAX_FILES};
 ghost use Rattle.file_records.specs.Importing.{IsPlannedFor};
 ghost use Rattle.file_records.specs.Lookup.{AreDistinct, IsUnknown, file_with};
-ghost use Rattle.file_records.specs.Rows.{AreFewHashes, row_of};
+ghost use Rattle.file_records.specs.Rows.{row_of};
 
 use crate::file_row::FileRow;
 use crate::import_plan::ImportPlan;
@@ -65,7 +65,6 @@ impl Files {
         ensures rows { result ≡ length self.now.rows }
         ensures few { result ≤ MAX_FILES }
         ensures distinct { AreDistinct self.now.rows }
-        ensures hashes { All (λ file. AreFewHashes file.hashes) self.now.rows }
     {
         self.rows.len() as u32
     }
@@ -95,7 +94,6 @@ impl Files {
     /// each row.
     pub fn plan_import(&mut self, file: &NewFile) -> Result<ImportPlan, NoMemory>
         requires unknown { IsUnknown file.now.sha self.old.rows }
-        requires hashes { AreFewHashes file.now.hashes }
         requires few { length self.old.rows < MAX_FILES }
         ensures rows { self.new.rows ≡ self.old.rows }
         ensures row { IfOk result (λ plan. plan ≡ row_of file.now) }

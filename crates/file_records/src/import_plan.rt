@@ -9,11 +9,8 @@ pub struct ImportPlan {
 
 impl Model for ImportPlan {
     ghost use Rattle.file_records.specs.declared.file_row.FileRow.{FileRow as Row};
-    ghost use Rattle.file_records.specs.Rows.{AreFewHashes};
 
     ghost Value = { Row };
 
     ghost view = { λ plan. plan.row };
-
-    ghost invariant = { λ plan. AreFewHashes plan.row.hashes };
 }

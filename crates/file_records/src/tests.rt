@@ -2,7 +2,7 @@ ghost use Rattle.std.specs.Prelude.{◌≡◌, ◌<◌, IfOk};
 ghost use Rattle.file_records.specs.Importing.{IsPlannedFor};
 
 use super::*;
-use media_types::{FileNo, Hash64, HashList, MAX_FILES, Sha, Steps};
+use media_types::{FileHashes, FileNo, Hash64, HashList, MAX_FILES, MAX_HASHES, Sha, Steps};
 use std::alloc::Global;
 use std::marker::Brand;
 use std::process::Abort;
@@ -16,9 +16,11 @@ fn sha_of(number: u32) -> Sha {
     Sha(bytes)
 }
 
-fn file_of(alloc: Global, number: u32, size: u64) -> Result<NewFile, Fail> {
-    let mut hashes = HashList::new(alloc);
-    hashes.push(Hash64(size))?;
+fn file_of(rt: &impl Abort, alloc: Global, number: u32, size: u64) -> Result<NewFile, Fail> {
+    let mut list = HashList::new(alloc);
+    list.push(Hash64(size))?;
+    assert!(rt; list.len() <= MAX_HASHES);
+    let hashes = FileHashes::new(list);
     Ok(NewFile {
         sha: sha_of(number),
         hashes,
@@ -33,7 +35,6 @@ fn plan_new(rt: &impl Abort, files: &mut Files, file: &NewFile) -> Result<Import
 {
     assert!(rt; files.find(&file.sha).is_none());
     assert!(rt; files.len() < MAX_FILES);
-    assert!(rt; file.hashes.len() <= 4);
     let plan = files.plan_import(file)?;
     Ok(plan)
 }
@@ -73,7 +74,7 @@ fn three_files<L: Ledger>(
     let mut files = Files::new(alloc);
     let cases = [(0, 70, 500), (1, 60, 400), (2, 80, 600)];
     for (place, number, size) in cases {
-        import_next(rt, &mut files, &file_of(alloc, number, size)?, place)?;
+        import_next(rt, &mut files, &file_of(rt, alloc, number, size)?, place)?;
     }
     assert_eq!(rt; files.len(), 3);
     assert_eq!(rt; files.find(&sha_of(90)), None);
@@ -95,7 +96,7 @@ fn many_files_are_found_again(rt: HostRuntime) -> Result<(), Fail> {
     let alloc = rt.alloc();
     let mut files = Files::new(alloc);
     for number in 0..2_000 {
-        let file = file_of(alloc, number, 7)?;
+        let file = file_of(&rt, alloc, number, 7)?;
         let plan = plan_new(&rt, &mut files, &file)?;
         assert_eq!(rt; files.commit_import(plan), FileNo(number));
     }

@@ -19,6 +19,7 @@ field_text fields.Code = codes "code"
 field_text fields.A = codes "a"
 field_text fields.B = codes "b"
 field_text fields.File = codes "file"
+field_text fields.Decision = codes "decision"
 
 -- the number of an import's status in a reply
 abbrev pub import_number : ImportStatus → ℕ
@@ -31,5 +32,8 @@ status_number statuses.Done = 0
 status_number statuses.Usage = 1
 status_number statuses.ReadFault = 2
 status_number statuses.WriteFault = 3
+status_number statuses.StoreFault = 4
 status_number statuses.NoMemory = 5
 status_number statuses.InputTooLong = 6
+status_number (statuses.BadStore n) = 7
+status_number statuses.AlienStore = 8

@@ -1,4 +1,4 @@
-use media_types::{Decision, FileNo, NewFile};
+use media_types::{Decision, DecisionNo, FileNo, NewFile};
 
 /// Who asks.
 #[derive(Clone, Copy, Debug, PartialEq, Eq, Hash)]
@@ -14,6 +14,8 @@ pub enum Command {
     Import(NewFile),
     /// Record a decision of two files.
     Decide(Decision),
+    /// Undo a decision: what stands is then made of all others.
+    Undo(DecisionNo),
     /// Tell how a file is related to the others.
     Relations(FileNo),
 }

@@ -6,6 +6,7 @@
 
 mod bytes_sink;
 mod bytes_source;
+mod change;
 mod command;
 mod gather;
 mod refusal;
@@ -16,12 +17,14 @@ mod status;
 
 pub use bytes_sink::BytesSink;
 pub use bytes_source::BytesSource;
+pub use change::Change;
 pub use command::{Caller, Command};
 pub use gather::Gather;
 pub use media_types::{
-    ByteList, CallList, Code, Decision, DecisionList, DecisionNo, DeskNo, Failed, FileList, FileNo,
-    FileRelations, Hash64, HashList, HashNo, KeyBytes, KeyNo, Listed, MAX_DECISIONS, MAX_FILES,
-    NewFile, NoMemory, ServiceNo, Sha, SizeList, Steps, TagNo, distance,
+    ByteList, CallList, Code, Decision, DecisionList, DecisionNo, DeskNo, Failed, FileHashes,
+    FileList, FileNo, FileRelations, Hash64, HashList, HashNo, KeyBytes, KeyNo, Listed,
+    MAX_DECISIONS, MAX_FILES, MAX_HASHES, NewFile, NoMemory, ServiceNo, Sha, SizeList, Steps,
+    TagNo, distance,
 };
 pub use refusal::{FieldName, Refusal};
 pub use reply::{ImportStatus, Imported, Reply};

@@ -13,25 +13,38 @@ pub enum FieldName {
     A,
     B,
     File,
+    Decision,
 }
 
 /// Why a request got no Ok reply. A refused request changes nothing.
 #[derive(Clone, Copy, Debug, PartialEq, Eq, Hash)]
 pub enum Refusal {
+    /// The line has more than 65,536 bytes, its line feed not counted.
+    LineTooLong,
     /// The line has no reading as a JSON value.
     NotJson,
     /// It is no object, or this field is the first that is missing or has another form.
     NotARequest(FieldName),
+    /// The SHA-256 isn't 64 hexadecimal digits.
+    BadHash,
     /// A file that it names isn't there.
     UnknownFile,
     /// The decision names one file twice.
     SameFile,
+    /// No decision has this number.
+    UnknownDecision,
+    /// The decision is undone already.
+    AlreadyUndone,
     /// There are as many files as a library holds, and this one would be new.
     FullFiles,
     /// There are as many decisions as a library holds.
     FullDecisions,
     /// There was no memory for it.
     NoMemory,
+    /// The records would change, and what keeps them has no room for the change.
+    JournalFull,
+    /// The records would change, and what keeps them failed. Its count of faults rose.
+    NotKept,
 }
 
 impl FieldName {
@@ -53,6 +66,7 @@ impl FieldName {
             FieldName::A => "a",
             FieldName::B => "b",
             FieldName::File => "file",
+            FieldName::Decision => "decision",
         }
     }
 }

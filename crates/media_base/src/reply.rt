@@ -23,6 +23,8 @@ pub enum Reply {
     Imported(Imported),
     /// The number under which the decision is recorded.
     Decided(DecisionNo),
+    /// The number of the decision that is undone now.
+    Undone(DecisionNo),
     Relations(FileRelations),
     Refused(Refusal),
 }

@@ -86,6 +86,7 @@ fn names(rt: HostRuntime) {
         (FieldName::A, "a"),
         (FieldName::B, "b"),
         (FieldName::File, "file"),
+        (FieldName::Decision, "decision"),
     ];
     for (field, text) in fields {
         assert_eq!(rt; field.text(), text);
@@ -95,8 +96,11 @@ fn names(rt: HostRuntime) {
         (Status::Usage, 1),
         (Status::ReadFault, 2),
         (Status::WriteFault, 3),
+        (Status::StoreFault, 4),
         (Status::NoMemory, 5),
         (Status::InputTooLong, 6),
+        (Status::BadStore(1), 7),
+        (Status::AlienStore, 8),
     ];
     for (status, number) in statuses {
         assert_eq!(rt; status.number(), number);

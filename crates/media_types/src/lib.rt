@@ -6,6 +6,7 @@
 
 mod decision;
 mod fault;
+mod file_hashes;
 mod file_relations;
 mod hash;
 mod limits;
@@ -16,9 +17,10 @@ mod steps;
 
 pub use decision::{Code, Decision};
 pub use fault::{Failed, NoMemory};
+pub use file_hashes::FileHashes;
 pub use file_relations::FileRelations;
 pub use hash::{Hash64, KeyBytes, Sha, distance};
-pub use limits::{MAX_DECISIONS, MAX_FILES};
+pub use limits::{MAX_DECISIONS, MAX_FILES, MAX_HASHES};
 pub use listed::{ByteList, CallList, DecisionList, FileList, HashList, Listed, SizeList};
 pub use new_file::NewFile;
 pub use numbers::{DecisionNo, DeskNo, FileNo, HashNo, KeyNo, ServiceNo, TagNo};

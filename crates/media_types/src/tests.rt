@@ -28,6 +28,24 @@ fn a_list_is_read_as_it_was_pushed(rt: HostRuntime) -> Result<(), Fail> {
     Ok(())
 }
 
+#[test]
+fn a_file_has_few_hashes(rt: HostRuntime) -> Result<(), Fail> {
+    let alloc = rt.alloc();
+    assert!(rt; FileHashes::none(alloc).as_slice().is_empty());
+    let mut list = HashList::new(alloc);
+    for word in 0..4 {
+        list.push(Hash64(word))?;
+    }
+    assert!(rt; list.len() <= MAX_HASHES);
+    let hashes = FileHashes::new(list);
+    let copy = hashes.copied(alloc)?;
+    assert_eq!(rt;
+        copy.as_slice(),
+        [Hash64(0), Hash64(1), Hash64(2), Hash64(3)].as_slice()
+    );
+    Ok(())
+}
+
 // Counts over pairs of words whose differing bits can be counted by eye.
 #[test]
 fn distances(rt: HostRuntime) {

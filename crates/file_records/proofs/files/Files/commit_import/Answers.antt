@@ -13,4 +13,4 @@ invariant_of-self c =
     let seen : files ≡ c.args.self.now.rows = ap (λ (t : Table FileRow). t.rows) c.self.view_is in
     let unknown : IsUnknown file.sha files = rw (seen, c.plan.view_is) c.requires.unknown in
     let few : length files < MAX_FILES = rw seen c.requires.few in
-    index_of_pushed _ _ files _ _ c.self.invariant unknown c.plan.invariant few (rw c.unwrap-added.ensures at c.insert.ensures.keys) c.push.ensures.rows
+    index_of_pushed _ _ files _ _ c.self.invariant unknown few (rw c.unwrap-added.ensures at c.insert.ensures.keys) c.push.ensures.rows
