@@ -15,9 +15,9 @@ use Rattle.media_base.specs.declared.command.Command.TheVariants as commands
 use Rattle.media_base.specs.declared.refusal.FieldName.TheVariants as fields
 use Rattle.media_base.specs.declared.refusal.Refusal.{Refusal}
 use Rattle.media_base.specs.declared.refusal.Refusal.TheVariants as refusals
-use Rattle.command_text.specs.Reading.{◌>>=◌, formed, text_of, whole_number_at, sha_at, hashes_at, code_at, import_at, decide_at, relations_at, named_command, value_command, read_command, line_value, line_command}
+use Rattle.command_text.specs.Reading.{◌>>=◌, formed, text_of, whole_number_at, sha_at, hashes_at, code_at, import_at, decide_at, relations_at, named_command, value_command, read_command, line_value, text_command}
 use Rattle.command_text.specs.Spelling.{IsTextOf, HasText, AsksImport, AsksDecide, AsksRelations, SpellsImport, SpellsDecide, SpellsRelations}
-use Rattle.command_text.proofs.Lines.{line_value-utf8, line_command-value}
+use Rattle.command_text.proofs.Lines.{line_value-utf8, text_command-value}
 use Rattle.command_text.proofs.FieldLaws.{formed_ok, text_of-some, whole_number_at-ok, whole_number_at-has, sha_at-ok, sha_at-has, hashes_at-ok, hashes_at-has, code_at-ok, code_at-has}
 
 -- what an `Ok` after `>>=` shows
@@ -172,14 +172,14 @@ read_command-ok : (found : Option Data) (command : Command) → read_command fou
 read_command-ok None command e = cc e
 read_command-ok (Some value) command e = (value, refl, e)
 
-line_command-ok : (line : List ℕ) (command : Command) → line_command line ≡ Ok command → (value : Data) × IsTextOf line value × Asked value command
-line_command-ok line command e =
-    let p = read_command-ok (line_value line) command (sym (line_command-value line (line_value line) refl) ∙ e) in
+text_command-ok : (line : List ℕ) (command : Command) → text_command line ≡ Ok command → (value : Data) × IsTextOf line value × Asked value command
+text_command-ok line command e =
+    let p = read_command-ok (line_value line) command (sym (text_command-value line (line_value line) refl) ∙ e) in
     (p.0, line_value-some line p.0 p.1, value_command-ok p.0 command p.2)
 
-pub line_command-reads : (line : List ℕ) (value : Data) → IsTextOf line value → line_command line ≡ value_command value
-line_command-reads line value text =
-    line_command-value line (Some value) (line_value-utf8 line text.utf8 ∙ text.reads)
+pub text_command-reads : (line : List ℕ) (value : Data) → IsTextOf line value → text_command line ≡ value_command value
+text_command-reads line value text =
+    text_command-value line (Some value) (line_value-utf8 line text.utf8 ∙ text.reads)
 
 -- ---- the laws
 
@@ -204,29 +204,29 @@ relations_asked value file (relations other same asks) =
     let e : other ≡ file = cc same in
     subst (λ (found : FileNo). AsksRelations value found) e asks
 
-pub import_law : (line : List ℕ) (file : NewFile) → (line_command line ≡ Ok (commands.Import file)) ↔ SpellsImport line file
+pub import_law : (line : List ℕ) (file : NewFile) → (text_command line ≡ Ok (commands.Import file)) ↔ SpellsImport line file
 import_law line file = (
   λ e.
-      let p = line_command-ok line (commands.Import file) e in
+      let p = text_command-ok line (commands.Import file) e in
       record { value = p.0; reads = p.1; asks = import_asked p.0 file p.2 },
   λ s.
-      line_command-reads line s.value s.reads ∙ value_command-named s.value (codes "import") s.asks.asks ∙ named_import s.value ∙ import_at-has s.value file s.asks,
+      text_command-reads line s.value s.reads ∙ value_command-named s.value (codes "import") s.asks.asks ∙ named_import s.value ∙ import_at-has s.value file s.asks,
 )
 
-pub decide_law : (line : List ℕ) (decision : Decision) → (line_command line ≡ Ok (commands.Decide decision)) ↔ SpellsDecide line decision
+pub decide_law : (line : List ℕ) (decision : Decision) → (text_command line ≡ Ok (commands.Decide decision)) ↔ SpellsDecide line decision
 decide_law line decision = (
   λ e.
-      let p = line_command-ok line (commands.Decide decision) e in
+      let p = text_command-ok line (commands.Decide decision) e in
       record { value = p.0; reads = p.1; asks = decide_asked p.0 decision p.2 },
   λ s.
-      line_command-reads line s.value s.reads ∙ value_command-named s.value (codes "decide") s.asks.asks ∙ named_decide s.value ∙ decide_at-has s.value decision s.asks,
+      text_command-reads line s.value s.reads ∙ value_command-named s.value (codes "decide") s.asks.asks ∙ named_decide s.value ∙ decide_at-has s.value decision s.asks,
 )
 
-pub relations_law : (line : List ℕ) (file : FileNo) → (line_command line ≡ Ok (commands.Relations file)) ↔ SpellsRelations line file
+pub relations_law : (line : List ℕ) (file : FileNo) → (text_command line ≡ Ok (commands.Relations file)) ↔ SpellsRelations line file
 relations_law line file = (
   λ e.
-      let p = line_command-ok line (commands.Relations file) e in
+      let p = text_command-ok line (commands.Relations file) e in
       record { value = p.0; reads = p.1; asks = relations_asked p.0 file p.2 },
   λ s.
-      line_command-reads line s.value s.reads ∙ value_command-named s.value (codes "relations") s.asks.asks ∙ named_relations s.value ∙ relations_at-has s.value file s.asks,
+      text_command-reads line s.value s.reads ∙ value_command-named s.value (codes "relations") s.asks.asks ∙ named_relations s.value ∙ relations_at-has s.value file s.asks,
 )

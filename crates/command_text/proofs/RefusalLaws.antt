@@ -1,7 +1,7 @@
 -- A line is refused exactly where it has no reading or a first fault, and for no other cause.
-use Rattle.std.proofs.Common.{◌≡◌, ℕ, ◌^◌, ◌⊎◌, ◌↔◌, inl, inr, false, List, [], ◌∷◌, codes, Option, Some, None, option_and_then, Result, Ok, Err, refl, sym, ap, ◌∙◌}
+use Rattle.std.proofs.Common.{◌≡◌, ℕ, ◌^◌, ◌⊎◌, ◌↔◌, ◌<◌, inl, inr, Bool, true, false, cond, nat_lt, length, List, [], ◌∷◌, codes, Option, Some, None, option_and_then, Result, Ok, Err, refl, sym, ap, ◌∙◌}
 use Rattle.std.specs.Str.{bytes_eq}
-use Rattle.std.proofs.lemmas.Bool.{false≢true, cases_Bool}
+use Rattle.std.proofs.lemmas.Bool.{false≢true, cases_Bool, ltb-true, lt-ltb}
 use Rattle.std.proofs.lemmas.Slice.Eq.{bytes_eq-Decides}
 use Rattle.serde_json.specs.Find.{as_str}
 use Rattle.serde_json.specs.Data.{Data, string}
@@ -14,11 +14,12 @@ use Rattle.media_base.specs.declared.refusal.FieldName.{FieldName}
 use Rattle.media_base.specs.declared.refusal.FieldName.TheVariants as fields
 use Rattle.media_base.specs.declared.refusal.Refusal.{Refusal}
 use Rattle.media_base.specs.declared.refusal.Refusal.TheVariants as refusals
-use Rattle.command_text.specs.Reading.{◌>>=◌, formed, field_of, text_of, below, number_of, whole_number_at, sha_of, sha_with, sha_at, hashes_of, hashes_at, code_of, code_at, import_at, decide_at, relations_at, named_command, value_command, read_command, line_value, line_command}
+use Rattle.command_text.specs.Reading.{◌>>=◌, formed, field_of, text_of, below, number_of, whole_number_at, sha_of, sha_with, sha_at, hashes_of, hashes_at, code_of, code_at, import_at, decide_at, relations_at, named_command, value_command, read_command, line_value, text_command, line_command}
+use Rattle.command_text.specs.declared.request.TheConstants.{MAX_LINE}
 use Rattle.command_text.specs.Spelling.{HasNoReading, HasText, HasNumber, HasForm, IsFirstOf, IsFirstFault, of_none, of_import, of_decide, of_relations, SpellsFault}
-use Rattle.command_text.proofs.Lines.{line_command-value}
+use Rattle.command_text.proofs.Lines.{text_command-value}
 use Rattle.command_text.proofs.FieldLaws.{formed_ok, text_of-some, whole_number_at-ok, whole_number_at-has, sha_at-ok, sha_at-has, hashes_at-ok, hashes_at-has, code_at-ok, code_at-has}
-use Rattle.command_text.proofs.CommandLaws.{asked_name, value_command-named, named_import, named_decide, named_relations, line_value-some, line_command-reads}
+use Rattle.command_text.proofs.CommandLaws.{asked_name, value_command-named, named_import, named_decide, named_relations, line_value-some, text_command-reads}
 
 -- ---- one field
 
@@ -323,12 +324,12 @@ read_command-blamed : (found : Option Data) (field : FieldName) → read_command
 read_command-blamed None field e = cc e
 read_command-blamed (Some value) field e = (value, refl, e)
 
-pub fault_law : (line : List ℕ) (field : FieldName) → (line_command line ≡ Err (refusals.NotARequest field)) ↔ SpellsFault line field
+pub fault_law : (line : List ℕ) (field : FieldName) → (text_command line ≡ Err (refusals.NotARequest field)) ↔ SpellsFault line field
 fault_law line field = (
   λ e.
-      let p = read_command-blamed (line_value line) field (sym (line_command-value line (line_value line) refl) ∙ e) in
+      let p = read_command-blamed (line_value line) field (sym (text_command-value line (line_value line) refl) ∙ e) in
       record { value = p.0; reads = line_value-some line p.0 p.1; asks = (value_blames p.0 field).0 p.2 },
-  λ s. line_command-reads line s.value s.reads ∙ (value_blames s.value field).1 s.asks,
+  λ s. text_command-reads line s.value s.reads ∙ (value_blames s.value field).1 s.asks,
 )
 
 no_json : (reading : Result Command Refusal) → Settled reading → reading ≡ Err refusals.NotJson → ⊥
@@ -339,12 +340,32 @@ read_or_none : (found : Option Data) → (found ≡ None) ⊎ ((value : Data) ×
 read_or_none None = inl refl
 read_or_none (Some value) = inr (value, refl)
 
-pub no_reading_law : (line : List ℕ) → (line_command line ≡ Err refusals.NotJson) ↔ HasNoReading line
+pub no_reading_law : (line : List ℕ) → (text_command line ≡ Err refusals.NotJson) ↔ HasNoReading line
 no_reading_law line = (
-  λ e value text. no_json (value_command value) (settled value) (sym (line_command-reads line value text) ∙ e),
+  λ e value text. no_json (value_command value) (settled value) (sym (text_command-reads line value text) ∙ e),
   λ none.
       elim (read_or_none (line_value line)) [
-        | inl e ↦ line_command-value line None e
+        | inl e ↦ text_command-value line None e
         | inr p ↦ absurd (none p.0 (line_value-some line p.0 p.1))
       ],
+)
+
+not_long : (reading : Result Command Refusal) → Settled reading → reading ≡ Err refusals.LineTooLong → ⊥
+not_long reading (inl p) e = cc (sym e ∙ p.1)
+not_long reading (inr p) e = cc (sym e ∙ p.1)
+
+-- no text is refused as too long
+text_fits : (found : Option Data) → read_command found ≡ Err refusals.LineTooLong → ⊥
+text_fits None e = cc e
+text_fits (Some value) e = not_long (value_command value) (settled value) e
+
+told_long : (test : Bool) (other : Result Command Refusal) → (other ≡ Err refusals.LineTooLong → ⊥) → cond test (Err refusals.LineTooLong) other ≡ Err refusals.LineTooLong → test ≡ true
+told_long true other fits e = refl
+told_long false other fits e = absurd (fits e)
+
+pub too_long_law : (line : List ℕ) → (line_command line ≡ Err refusals.LineTooLong) ↔ (MAX_LINE < length line)
+unfolding line_command
+too_long_law line = (
+  λ e. ltb-true _ _ (told_long (nat_lt MAX_LINE (length line)) (text_command line) (λ same. text_fits (line_value line) (sym (text_command-value line (line_value line) refl) ∙ same)) e),
+  λ long. ap (λ (test : Bool). cond test (Err refusals.LineTooLong) (text_command line)) (lt-ltb _ _ long),
 )

@@ -1,5 +1,5 @@
 -- What a request line asks, with the tests in their order: the first that fails names the refusal.
-use Rattle.std.specs.Prelude.{◌≡◌, ℕ, ◌^◌, ◌==◌, ◌⊎◌, List, [], codes, nat_lt, if◌then◌else◌, Option, Some, None, option_map, option_and_then, Result, Ok, Err, MatchResult}
+use Rattle.std.specs.Prelude.{◌≡◌, ℕ, ◌^◌, ◌==◌, ◌⊎◌, List, [], codes, length, nat_lt, if◌then◌else◌, Option, Some, None, option_map, option_and_then, Result, Ok, Err, MatchResult}
 use Rattle.std.specs.Result.{result_ok}
 use Rattle.std.specs.Str.{is_utf8, bytes_eq}
 use Rattle.hex.specs.Hex.{decode_sized}
@@ -17,6 +17,7 @@ use Rattle.media_base.specs.declared.refusal.FieldName.TheVariants as fields
 use Rattle.media_base.specs.declared.refusal.Refusal.{Refusal}
 use Rattle.media_base.specs.declared.refusal.Refusal.TheVariants as refusals
 use Rattle.media_base.specs.Names.{field_text}
+use Rattle.command_text.specs.declared.request.TheConstants.{MAX_LINE}
 
 -- the second step, if the first gave a value
 infixl 10 ◌>>=◌
@@ -129,6 +130,12 @@ abbrev pub read_command : Option Data → Result Command Refusal
 read_command None = Err refusals.NotJson
 read_command (Some value) = value_command value
 
--- the command that the line asks, or why it is refused
+-- the command that the line's text asks, or why it is refused
+unfoldable pub text_command : List ℕ → Result Command Refusal
+text_command line = read_command (line_value line)
+
+-- the command that the line asks, or why it is refused; that it is too long is told first
 unfoldable pub line_command : List ℕ → Result Command Refusal
-line_command line = read_command (line_value line)
+line_command line =
+    if nat_lt MAX_LINE (length line) then Err refusals.LineTooLong
+    else text_command line

@@ -56,6 +56,7 @@ relations_text relations = king_text relations.king ++ others_text relations
 -- ---- refusals
 
 abbrev pub refusal_name : Refusal → List ℕ
+refusal_name refusals.LineTooLong = codes "line_too_long"
 refusal_name refusals.NotJson = codes "not_json"
 refusal_name (refusals.NotARequest field) = codes "not_a_request"
 refusal_name refusals.UnknownFile = codes "unknown_file"

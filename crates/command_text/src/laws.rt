@@ -1,30 +1,37 @@
 //! What the definitions of reading mean, for every line.
 
-ghost use Rattle.std.specs.Prelude.{◌≡◌, ◌↔◌, ℕ, List, Ok, Err};
+ghost use Rattle.std.specs.Prelude.{◌≡◌, ◌↔◌, ◌<◌, ℕ, List, Ok, Err, length};
 ghost use Rattle.media_types.specs.declared.decision.Decision.{Decision};
 ghost use Rattle.media_types.specs.declared.new_file.NewFile.{NewFile};
 ghost use Rattle.media_types.specs.declared.numbers.FileNo.{FileNo};
 ghost use Rattle.media_base.specs.declared.command.Command.TheVariants as commands;
 ghost use Rattle.media_base.specs.declared.refusal.FieldName.{FieldName};
 ghost use Rattle.media_base.specs.declared.refusal.Refusal.TheVariants as refusals;
-ghost use Rattle.command_text.specs.Reading.{line_command};
+ghost use Rattle.command_text.specs.Reading.{line_command, text_command};
+ghost use Rattle.command_text.specs.declared.request.TheConstants.{MAX_LINE};
 ghost use Rattle.command_text.specs.Spelling.{HasNoReading, SpellsImport, SpellsDecide, SpellsRelations, SpellsFault};
 
 /// A line is read as a command exactly where it spells the command.
 pub fn spelling_laws()
     ensures import { (line : List ℕ) (file : NewFile)
-        → (line_command line ≡ Ok (commands.Import file)) ↔ SpellsImport line file }
+        → (text_command line ≡ Ok (commands.Import file)) ↔ SpellsImport line file }
     ensures decide { (line : List ℕ) (decision : Decision)
-        → (line_command line ≡ Ok (commands.Decide decision)) ↔ SpellsDecide line decision }
+        → (text_command line ≡ Ok (commands.Decide decision)) ↔ SpellsDecide line decision }
     ensures relations { (line : List ℕ) (file : FileNo)
-        → (line_command line ≡ Ok (commands.Relations file)) ↔ SpellsRelations line file }
+        → (text_command line ≡ Ok (commands.Relations file)) ↔ SpellsRelations line file }
 {}
 
 /// A line is refused as no JSON exactly where it has no reading, and by a field exactly where that is
 /// the first, in the command's order, that hasn't its form.
 pub fn refusal_laws()
     ensures not_json { (line : List ℕ)
-        → (line_command line ≡ Err refusals.NotJson) ↔ HasNoReading line }
+        → (text_command line ≡ Err refusals.NotJson) ↔ HasNoReading line }
     ensures not_a_request { (line : List ℕ) (field : FieldName)
-        → (line_command line ≡ Err (refusals.NotARequest field)) ↔ SpellsFault line field }
+        → (text_command line ≡ Err (refusals.NotARequest field)) ↔ SpellsFault line field }
+{}
+
+/// A line is refused as too long exactly where it has more bytes than a line may have.
+pub fn long_line_laws()
+    ensures too_long { (line : List ℕ)
+        → (line_command line ≡ Err refusals.LineTooLong) ↔ (MAX_LINE < length line) }
 {}

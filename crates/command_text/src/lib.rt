@@ -11,9 +11,9 @@ mod reply_size;
 mod request;
 mod writing;
 
-pub use laws::{refusal_laws, spelling_laws};
+pub use laws::{long_line_laws, refusal_laws, spelling_laws};
 pub use reply_size::reply_len;
-pub use request::read_line;
+pub use request::{MAX_LINE, read_line};
 pub use writing::{write_reply, write_reply_line};
 
 #[cfg(test)]

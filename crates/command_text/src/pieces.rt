@@ -83,6 +83,7 @@ fn name_of(refusal: Refusal) -> &'static str
     ensures { result.now ≡ refusal_name refusal }
 {
     match refusal {
+        Refusal::LineTooLong => "line_too_long",
         Refusal::NotJson => "not_json",
         Refusal::NotARequest(_) => "not_a_request",
         Refusal::UnknownFile => "unknown_file",

@@ -1,19 +1,32 @@
 ghost use Rattle.std.specs.Prelude.{◌≡◌, ◌^◌, option_map};
 ghost use Rattle.serde_json.specs.View.{view};
-ghost use Rattle.command_text.specs.Reading.{Gives, text_of, number_of, whole_number_at, sha_at, hashes_at, code_at, import_at, decide_at, relations_at, named_command, value_command, line_command};
+ghost use Rattle.command_text.specs.Reading.{Gives, text_of, number_of, whole_number_at, sha_at, hashes_at, code_at, import_at, decide_at, relations_at, named_command, value_command, text_command, line_command};
 
 use hex::FromHex;
 use media_base::{Code, Command, Decision, FieldName, FileNo, HashList, NewFile, Refusal, Sha};
 use serde_json::Value;
 use std::alloc::Global;
 
+/// The most bytes of a request line, its line feed not counted.
+pub const MAX_LINE: usize = 65_536;
+
 /// Reads a request line, its line feed not among the bytes. It is refused as `NotJson` where it has no
 /// reading as a JSON value: it isn't UTF-8, no JSON, or nests deeper than 127 levels. It is refused as
 /// `NotARequest` by the first field, in the order `do` and then the command's own, that is missing or
 /// has another form; by `do` too where the value is no object or no command has the name. `NoMemory`
 /// may come at any line that isn't empty.
+#[tactic(auto, unfolding(crate::specs::Reading::line_command))]
 pub fn read_line(alloc: Global, bytes: &[u8]) -> Result<Command, Refusal>
     ensures { Gives result (line_command bytes.now) }
+{
+    if bytes.len() > MAX_LINE {
+        return Err(Refusal::LineTooLong);
+    }
+    read_text(alloc, bytes)
+}
+
+fn read_text(alloc: Global, bytes: &[u8]) -> Result<Command, Refusal>
+    ensures { Gives result (text_command bytes.now) }
 {
     match Value::from_slice(alloc, bytes) {
         Ok(value) => command_of(alloc, &value),
