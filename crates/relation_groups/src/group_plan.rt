@@ -32,7 +32,11 @@ impl Model for GroupPlan {
 
 impl GroupPlan {
     /// The plan that leads from these groups to a draft.
-    pub fn of_draft(alloc: Global, base: &Groups, draft: Draft) -> Result<GroupPlan, NoMemory>
+    pub(crate) fn of_draft(
+        alloc: Global,
+        base: &Groups,
+        draft: Draft,
+    ) -> Result<GroupPlan, NoMemory>
         requires few { draft.files ≤ MAX_FILES }
         requires size { draft.files ≡ size_of base.now }
         requires held { (R : Relations) × Holds draft R }
@@ -56,7 +60,7 @@ impl GroupPlan {
     }
 
     /// The groups as they will be.
-    pub fn into_groups(self) -> Groups
+    pub(crate) fn into_groups(self) -> Groups
         ensures { result ≡ self.after }
     {
         self.groups

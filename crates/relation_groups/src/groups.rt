@@ -3,13 +3,13 @@ ghost use Rattle.media_types.specs.declared.limits.TheConstants.{MAX_DECISIONS, 
 ghost use Rattle.relation_groups.specs.Clusters.{IsSplitBy, IsWithin, is_one_of, patched};
 ghost use Rattle.relation_groups.specs.Moves.{Marks, is_moved, move_to, moves};
 ghost use Rattle.relation_groups.specs.Reading.{size_of, relations_in, is_past, next_of, is_king_beside, names_unrelated, IsPlanFor, relations_after};
-ghost use Rattle.relation_groups.specs.Relations.{Relations, at_first, by_code, class_of, of_one_group, relations};
+ghost use Rattle.relation_groups.specs.Relations.{Relations, at_first, by_code, class_of, of_one_group, relations, standing_of};
 
 use crate::draft::Draft;
 use crate::group_plan::GroupPlan;
 use crate::moves::{Move, MoveList};
 use crate::numbers::{has_pair, mark_lacking};
-use media_types::{Code, Decision, DecisionList, FileList, FileNo, NoMemory, Steps};
+use media_types::{Code, Decision, DecisionList, FileList, FileNo, FileRelations, NoMemory, Steps};
 use std::alloc::Global;
 use std::marker::Model;
 use std::sync::ledger::Ledger;
@@ -121,6 +121,16 @@ impl Groups {
         has_pair(self.pairs.as_slice(), of_c, of_d)
     }
 
+    /// How a file stands among all files. It copies all lists, and may look at every pair for each file.
+    #[tactic(auto, unfolding(crate::specs::Reading::size_of))]
+    pub fn standing(&self, file: FileNo) -> Result<FileRelations, NoMemory>
+        requires { file.0 < size_of self.now }
+        ensures { IfOk result (λ found. found
+            ≡ standing_of (size_of self.now) (relations_in self.now) file) }
+    {
+        self.draft()?.standing(self.alloc, file)
+    }
+
     /// Plans what a decision of two files changes. It copies all lists, and changes nothing.
     pub fn plan_decide<L: Ledger>(
         &mut self,
@@ -200,7 +210,7 @@ impl Groups {
     }
 
     /// The groups of a draft, with each class named by its least file.
-    pub fn of_draft(alloc: Global, draft: Draft) -> Result<Groups, NoMemory>
+    pub(crate) fn of_draft(alloc: Global, draft: Draft) -> Result<Groups, NoMemory>
         requires few { draft.files ≤ MAX_FILES }
         requires held { (R : Relations) × Holds draft R }
         ensures size { IfOk result (λ G. size_of G ≡ draft.files) }
@@ -219,7 +229,7 @@ impl Groups {
 
     /// The files that stand otherwise in other groups of as many files. It looks at all pairs of the one
     /// for each pair of the other.
-    pub fn moves_to(&self, after: &Groups) -> Result<MoveList, NoMemory>
+    pub(crate) fn moves_to(&self, after: &Groups) -> Result<MoveList, NoMemory>
         requires { size_of after.now ≡ size_of self.now }
         ensures { IfOk result (λ list. list
             ≡ moves (size_of self.now) (relations_in self.now) (relations_in after.now)) }

@@ -180,6 +180,38 @@ fn assert_groups<L: Ledger>(
     Ok(())
 }
 
+fn assert_stands<L: Ledger>(
+    rt: &(impl Abort + Threads),
+    alloc: Global,
+    blank: Blank,
+) -> Result<(), NoMemory>
+    requires name { blank.name ≡ L.name }
+    requires parts { blank.parts ≡ L.parts }
+    requires some { 0 < L.parts }
+{
+    let mut steps = Steps::<L>::new(rt, blank);
+    let mut groups = groups_of(rt, alloc, 4)?;
+    assert!(rt; groups.len() == 4);
+    let standing = groups.standing(FileNo(3))?;
+    assert_lists(rt, &standing.members, &[3]);
+    for row in [(NOT_RELATED, 0, 1), (BETTER, 2, 3)] {
+        decide(rt, &mut groups, &mut steps, row)?;
+    }
+    assert!(rt; groups.len() == 4);
+    let standing = groups.standing(FileNo(3))?;
+    assert_eq!(rt; standing.king, FileNo(2));
+    assert_lists(rt, &standing.members, &[2, 3]);
+    assert_lists(rt, &standing.not_related, &[]);
+    assert_lists(rt, &groups.standing(FileNo(0))?.not_related, &[1]);
+    Ok(())
+}
+
+#[test]
+fn a_file_stands_as_was_decided(rt: HostRuntime) -> Result<(), Fail> {
+    assert_stands::<Brand>(&rt, rt.alloc(), Blank::new(1))?;
+    Ok(())
+}
+
 #[test]
 fn groups_answer_what_was_decided(rt: HostRuntime) -> Result<(), Fail> {
     assert_groups::<Brand>(&rt, rt.alloc(), Blank::new(1))?;
