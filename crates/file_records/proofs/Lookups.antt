@@ -114,7 +114,7 @@ index_with file files unknown = by (list_any (eq-value.it file.sha) (shas_of fil
     by true e = absurd (no_key file.sha files unknown (Contains-list_any eq-value.it (λ x y. (sha_decides x y).0) (shas_of files) file.sha e))
     by false e = ap (λ b. if b then shas_of files else shas_of files ++ file.sha ∷ []) e ∙ sym (map-append (λ f. f.sha) files (file ∷ []))
 
-distinct_with : (file : FileRow) (files : List FileRow) → AreDistinct files → IsUnknown file.sha files → AreDistinct (files ++ file ∷ [])
+pub distinct_with : (file : FileRow) (files : List FileRow) → AreDistinct files → IsUnknown file.sha files → AreDistinct (files ++ file ∷ [])
 distinct_with file files distinct unknown = all_pairs_push (λ a b. a.sha ≢ b.sha) files file distinct unknown
 
 pub index_of_pushed : (keys after : List Sha) (files rows : List FileRow) (file : FileRow) →

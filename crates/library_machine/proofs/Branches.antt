@@ -1,25 +1,28 @@
 -- The step's commands by what their tests say.
-use Rattle.std.proofs.Common.{◌≡◌, Bool, nat_lt, ◌==◌, ◌&&◌, not, if◌then◌else◌, [], ◌∷◌, ◌++◌, length, refl}
+use Rattle.std.proofs.Common.{◌≡◌, Bool, nat_lt, ◌==◌, ◌&&◌, not, if◌then◌else◌, [], ◌∷◌, ◌++◌, length, slice_get, refl}
 use Rattle.media_types.specs.declared.decision.Decision.{Decision}
 use Rattle.media_types.specs.declared.limits.TheConstants.{MAX_DECISIONS}
 use Rattle.media_types.specs.declared.new_file.NewFile.{NewFile}
+use Rattle.media_types.specs.declared.numbers.DecisionNo.{DecisionNo}
 use Rattle.media_types.specs.declared.numbers.FileNo.{FileNo}
+use Rattle.media_base.specs.declared.change.Change.TheVariants as changes
 use Rattle.media_base.specs.declared.refusal.Refusal.TheVariants as refusals
 use Rattle.media_base.specs.declared.reply.ImportStatus.TheVariants as imports
-use Rattle.media_base.specs.declared.reply.Reply.TheVariants.{Imported, Decided, Relations}
+use Rattle.media_base.specs.declared.reply.Reply.TheVariants.{Imported, Decided, Undone, Relations}
 use Rattle.file_records.specs.Rows.{row_of}
+use Rattle.decision_book.specs.Recorded.{undone_at}
 use Rattle.decision_book.specs.Standing as book
 use Rattle.relation_groups.specs.Relations.{relations_at}
 use Rattle.library_machine.specs.Records.{Records}
-use Rattle.library_machine.specs.Step.{Outcome, refused, has_file, decide, relations}
+use Rattle.library_machine.specs.Step.{Outcome, told, refused, changed, has_file, decide, undo_at, undo, relations}
 
 -- a new file, where there is room or not
 abbrev pub import_by : Records → NewFile → Bool → Outcome
 import_by r file room =
-    if room then record {
-      records = record r { files = r.files ++ row_of file ∷ [] };
-      reply = Imported (record { file = record { 0 = length r.files }; status = imports.New });
-    }
+    if room then changed
+    (record r { files = r.files ++ row_of file ∷ [] })
+    (Imported (record { file = record { 0 = length r.files }; status = imports.New }))
+    (changes.File file)
     else refused r refusals.FullFiles
 
 -- a decision, where both files are there or not, where they are one or not, where there is room or not
@@ -27,10 +30,10 @@ abbrev pub decide_by : Records → Decision → Bool → Bool → Bool → Outco
 decide_by r d there same room =
     if not there then refused r refusals.UnknownFile
     else if same then refused r refusals.SameFile
-    else if room then record {
-      records = record r { decisions = r.decisions ++ book.row_of d ∷ [] };
-      reply = Decided (record { 0 = length r.decisions });
-    }
+    else if room then changed
+    (record r { decisions = r.decisions ++ book.row_of d ∷ [] })
+    (Decided (record { 0 = length r.decisions }))
+    (changes.Decision d)
     else refused r refusals.FullDecisions
 
 pub decide_is : (r : Records) (d : Decision) → decide r d
@@ -38,13 +41,21 @@ pub decide_is : (r : Records) (d : Decision) → decide r d
 unfolding decide
 decide_is r d = refl
 
+-- an undoing, where the decision is undone or not
+abbrev pub undo_by : Records → DecisionNo → Bool → Outcome
+undo_by r n undone =
+    if undone then refused r refusals.AlreadyUndone
+    else changed (record r { decisions = undone_at n.0 r.decisions }) (Undone n) (changes.Undo n)
+
+pub undo_is : (r : Records) (n : DecisionNo) → undo r n ≡ undo_at r n (slice_get r.decisions n.0)
+unfolding undo
+undo_is r n = refl
+
 -- the relations of a file that is there or not
 abbrev pub relations_by : Records → FileNo → Bool → Outcome
 relations_by r file there =
-    if there then record {
-      records = r;
-      reply = Relations (relations_at (length r.files) (book.standing r.decisions) file);
-    }
+    if there then
+    told r (Relations (relations_at (length r.files) (book.standing r.decisions) file))
     else refused r refusals.UnknownFile
 
 pub relations_is : (r : Records) (file : FileNo) → relations r file ≡ relations_by r file (has_file r file)

@@ -1,65 +1,31 @@
 -- Exactly when the step gives each refusal.
-use Rattle.std.proofs.Common.{◌≡◌, ◌≢◌, ◌↔◌, ◌⊎◌, inl, inr, ◌≤◌, ℕ, Bool, true, false, nat_lt, ◌==◌, ◌&&◌, Option, Some, None, length, refl, arith, ap, subst, sym, List, [], ◌∷◌}
-use Rattle.std.specs.Str.{bytes_eq}
-use Rattle.std.specs.List.{position, position_or_len, All}
-use Rattle.std.proofs.lemmas.Bool.{ltb-true, ltb-false, lt-ltb, eqb-true, eqb-false, and_parts, and_cases, both_ways}
-use Rattle.std.proofs.lemmas.List.Sums.{fails_before_first, passes_at_first}
-use Rattle.std.proofs.lemmas.Slice.Eq.{bytes_eq-Decides}
+use Rattle.std.proofs.Common.{◌≡◌, ◌≢◌, ◌↔◌, ◌⊎◌, inl, inr, ◌≤◌, ℕ, Bool, true, false, nat_lt, ◌==◌, ◌&&◌, Option, Some, None, length, slice_get, refl, arith, ap, subst, sym, List}
+use Rattle.std.proofs.lemmas.Option.{slice_get_cases, slice_get_past}
+use Rattle.std.proofs.lemmas.Bool.{ltb-true, ltb-false, lt-ltb, eqb-true, eqb-false, and_parts, and_cases}
 use Rattle.media_types.specs.declared.decision.Decision.{Decision}
 use Rattle.media_types.specs.declared.hash.Sha.{Sha}
 use Rattle.media_types.specs.declared.limits.TheConstants.{MAX_DECISIONS, MAX_FILES}
 use Rattle.media_types.specs.declared.new_file.NewFile.{NewFile}
+use Rattle.media_types.specs.declared.numbers.DecisionNo.{DecisionNo}
 use Rattle.media_types.specs.declared.numbers.FileNo.{FileNo}
 use Rattle.media_base.specs.declared.command.Caller.{Caller}
 use Rattle.media_base.specs.declared.command.Caller.TheVariants.{Console}
+use Rattle.media_base.specs.declared.command.Command.{Command}
 use Rattle.media_base.specs.declared.command.Command.TheVariants as commands
 use Rattle.media_base.specs.declared.refusal.Refusal.{Refusal}
 use Rattle.media_base.specs.declared.refusal.Refusal.TheVariants as refusals
 use Rattle.media_base.specs.declared.reply.Reply.TheVariants.{Refused}
 use Rattle.file_records.specs.declared.file_row.FileRow.{FileRow}
-use Rattle.library_machine.specs.Records.{Records, IsThere, IsNew, IsFullOfFiles, IsFullOfDecisions}
-use Rattle.library_machine.specs.Laws.{NeverNoMemory, NotFoundIsNew, RefusesImports, RefusesDecisions, RefusesRelations}
-use Rattle.file_records.specs.Lookup.{file_with}
-use Rattle.library_machine.specs.Step.{Outcome, import_at, import, step, has_file}
-use Rattle.library_machine.proofs.Branches.{import_by, decide_by, decide_is, relations_by, relations_is}
+use Rattle.library_machine.specs.Records.{Records, IsThere, IsNew, IsRecorded, IsFullOfFiles, IsFullOfDecisions}
+use Rattle.library_machine.specs.Laws.{NeverLacks, RefusesImports, RefusesDecisions, RefusesUndoing, RefusesRelations}
+use Rattle.file_records.specs.Lookup.{IsUnknown, file_with}
+use Rattle.decision_book.specs.declared.decision_row.DecisionRow.{DecisionRow}
+use Rattle.library_machine.specs.Step.{Outcome, import_at, import, step, has_file, undo_at}
+use Rattle.library_machine.proofs.Branches.{import_by, decide_by, decide_is, undo_by, undo_is, relations_by, relations_is}
 
--- the test of a file by its SHA-256
-abbrev has_sha : Sha → FileRow → Bool
-has_sha sha file = bytes_eq file.sha.0 sha.0
-
-same_sha : (a b : Sha) → bytes_eq a.0 b.0 ≡ true → a ≡ b
-same_sha a b e = ap (λ (bytes : List ℕ). record { 0 = bytes }) ((bytes_eq-Decides a.0 b.0).0 e)
-
-other_sha : (a b : Sha) → bytes_eq a.0 b.0 ≡ false → a ≢ b
-other_sha a b e same = both_ways _ e ((bytes_eq-Decides a.0 b.0).1 (ap (λ (s : Sha). s.0) same))
-
--- a position is none only where the first that passes is behind the end
-at_end : (t : FileRow → Bool) (files : List FileRow) (found : Bool) →
-    nat_lt (position_or_len t files) (length files) ≡ found → position t files ≡ None → length files ≤ position_or_len t files
-at_end t files true is none = let some = rw is at none in cc
-at_end t files false is none = ltb-false _ _ is
-
--- and there it is none
-none_at_end : (t : FileRow → Bool) (files : List FileRow) (found : Bool) →
-    nat_lt (position_or_len t files) (length files) ≡ found → (found ≡ true → ⊥) → position t files ≡ None
-none_at_end t files true is never = absurd (never refl)
-none_at_end t files false is never = rw is
-
-new_is_not_found : (sha : Sha) (files : List FileRow) → All (λ file. file.sha ≢ sha) files → file_with sha files ≡ None
-new_is_not_found sha [] new = refl
-new_is_not_found sha (first ∷ files) new =
-    let all = first ∷ files in
-    none_at_end (has_sha sha) all _ refl (λ found.
-    let lt = ltb-true _ _ found in
-    new (position_or_len (has_sha sha) all) first lt (same_sha _ _ (passes_at_first (has_sha sha) all first lt)))
-
-found_is_not_new : (sha : Sha) (files : List FileRow) → file_with sha files ≡ None → All (λ file. file.sha ≢ sha) files
-found_is_not_new sha files none k d lt =
-    let end = at_end (has_sha sha) files _ refl none in
-    other_sha _ _ (fails_before_first (has_sha sha) files k d (omega arith))
-
-pub not_found_is_new : NotFoundIsNew
-not_found_is_new r sha = (found_is_not_new sha r.files, new_is_not_found sha r.files)
+-- what the file records say of a file that isn't found
+abbrev NotFound : Type 0
+NotFound = (sha : Sha) (files : List FileRow) → (file_with sha files ≡ None) ↔ IsUnknown sha files
 
 -- what `RefusesImports` says, of the outcome that an import has
 abbrev RefusesAsImport : Records → NewFile → Outcome → Type 0
@@ -67,32 +33,32 @@ RefusesAsImport r file o =
     ((o.reply ≡ Refused refusals.FullFiles) ↔ (IsFullOfFiles r × IsNew r file.sha))
     × ((why : Refusal) → o.reply ≡ Refused why → why ≡ refusals.FullFiles)
 
-new_file_refused : (r : Records) (file : NewFile) (room : Bool) →
+new_file_refused : NotFound → (r : Records) (file : NewFile) (room : Bool) →
     file_with file.sha r.files ≡ None → nat_lt (length r.files) MAX_FILES ≡ room → RefusesAsImport r file (import_by r file room)
-new_file_refused r file true none is = (
+new_file_refused not_found r file true none is = (
   (λ e. absurd (cc), λ full. let lt = ltb-true _ _ is in absurd (omega (arith, full.0))),
   λ why e. absurd (cc),
 )
-new_file_refused r file false none is = (
-  (λ e. (ltb-false _ _ is, found_is_not_new file.sha r.files none), λ full. refl),
+new_file_refused not_found r file false none is = (
+  (λ e. (ltb-false _ _ is, (not_found file.sha r.files).0 none), λ full. refl),
   λ why e. cc,
 )
 
-import_refused : (r : Records) (file : NewFile) (at : Option ℕ) →
+import_refused : NotFound → (r : Records) (file : NewFile) (at : Option ℕ) →
     file_with file.sha r.files ≡ at → RefusesAsImport r file (import_at r file at)
-import_refused r file (Some at) is = (
+import_refused not_found r file (Some at) is = (
   (
     λ e. absurd (cc),
-    λ full. let none = new_is_not_found file.sha r.files full.1 in absurd (cc),
+    λ full. let none = (not_found file.sha r.files).1 full.1 in absurd (cc),
   ),
   λ why e. absurd (cc),
 )
-import_refused r file None is = new_file_refused r file _ is refl
+import_refused not_found r file None is = new_file_refused not_found r file _ is refl
 
-pub refuses_imports : (r : Records) (caller : Caller) (file : NewFile) → RefusesImports r caller file
+pub refuses_imports : NotFound → (r : Records) (caller : Caller) (file : NewFile) → RefusesImports r caller file
 unfolding step import
-refuses_imports r Console file =
-    let both = import_refused r file (file_with file.sha r.files) refl in
+refuses_imports not_found r Console file =
+    let both = import_refused not_found r file (file_with file.sha r.files) refl in
     record { full_files = both.0; no_other = both.1 }
 
 -- ---- decisions and relations
@@ -186,8 +152,93 @@ refuses_relations r Console file =
     let both = subst (RefusesAsRelations r file) (sym (relations_is r file)) (relations_refused r file _ refl) in
     record { unknown_file = both.0; no_other = both.1 }
 
-pub never_no_memory : NeverNoMemory
-never_no_memory r caller (commands.Import file) e = let why = (refuses_imports r caller file).no_other _ e in absurd (cc)
-never_no_memory r caller (commands.Decide d) e =
-    elim ((refuses_decisions r caller d).no_other _ e) [ inl one ↦ cc | inr (inl one) ↦ cc | inr (inr one) ↦ cc ]
-never_no_memory r caller (commands.Relations file) e = let why = (refuses_relations r caller file).no_other _ e in absurd (cc)
+-- ---- undoing
+
+behind : (rows : List DecisionRow) (n : ℕ) → slice_get rows n ≡ None → length rows ≤ n
+behind rows n none =
+    elim ((slice_get_cases rows n).1) [ inl some ↦ absurd (cc (some.2, none)) | inr past ↦ past.0 ]
+
+-- what `RefusesUndoing` says, of the outcome that an undoing has
+abbrev RefusesAsUndoing : Records → DecisionNo → Outcome → Type 0
+RefusesAsUndoing r n o =
+    ((o.reply ≡ Refused refusals.UnknownDecision) ↔ (length r.decisions ≤ n.0))
+    × ((o.reply ≡ Refused refusals.AlreadyUndone) ↔ IsRecorded r n true)
+    × ((why : Refusal) → o.reply ≡ Refused why →
+    (why ≡ refusals.UnknownDecision) ⊎ (why ≡ refusals.AlreadyUndone))
+
+undoing_refused : (r : Records) (n : DecisionNo) (row : DecisionRow) (undone : Bool) →
+    slice_get r.decisions n.0 ≡ Some row → row.undone ≡ undone → RefusesAsUndoing r n (undo_by r n undone)
+undoing_refused r n row true is marked = (
+  (λ e. absurd (cc), λ le. absurd (cc (slice_get_past r.decisions n.0 le, is))),
+  (λ e. (row, is, marked), λ there. refl),
+  λ why e. inr cc,
+)
+undoing_refused r n row false is marked = (
+  (λ e. absurd (cc), λ le. absurd (cc (slice_get_past r.decisions n.0 le, is))),
+  (λ e. absurd (cc), λ there. absurd (cc (there.1, is, there.2, marked))),
+  λ why e. absurd (cc),
+)
+
+undo_refused : (r : Records) (n : DecisionNo) (row : Option DecisionRow) →
+    slice_get r.decisions n.0 ≡ row → RefusesAsUndoing r n (undo_at r n row)
+undo_refused r n None is = (
+  (λ e. behind r.decisions n.0 is, λ le. refl),
+  (λ e. absurd (cc), λ there. absurd (cc (there.1, is))),
+  λ why e. inl cc,
+)
+undo_refused r n (Some row) is = undoing_refused r n row row.undone is refl
+
+pub refuses_undoing : (r : Records) (caller : Caller) (n : DecisionNo) → RefusesUndoing r caller n
+unfolding step
+refuses_undoing r Console n =
+    let all = subst (RefusesAsUndoing r n) (sym (undo_is r n)) (undo_refused r n _ refl) in
+    record { unknown_decision = all.0; already_undone = all.1; no_other = all.2 }
+
+-- ---- a refusal that no command has
+
+-- the reasons of the step
+abbrev IsReason : Refusal → Type 0
+IsReason why =
+    (why ≡ refusals.FullFiles) ⊎ (why ≡ refusals.UnknownFile) ⊎ (why ≡ refusals.SameFile) ⊎ (why ≡ refusals.FullDecisions)
+    ⊎ (why ≡ refusals.UnknownDecision) ⊎ (why ≡ refusals.AlreadyUndone)
+
+reasons : NotFound → (r : Records) (caller : Caller) (command : Command) (why : Refusal) → (step r caller command).reply ≡ Refused why → IsReason why
+reasons not_found r caller (commands.Import file) why e = inl ((refuses_imports not_found r caller file).no_other why e)
+reasons not_found r caller (commands.Decide d) why e =
+    elim ((refuses_decisions r caller d).no_other why e) [ inl one ↦ inr (inl one) | inr (inl one) ↦ inr (inr (inl one)) | inr (inr one) ↦ inr (inr (inr (inl one))) ]
+reasons not_found r caller (commands.Undo n) why e =
+    elim ((refuses_undoing r caller n).no_other why e) [ inl one ↦ inr (inr (inr (inr (inl one)))) | inr one ↦ inr (inr (inr (inr (inr one)))) ]
+reasons not_found r caller (commands.Relations file) why e = inr (inl ((refuses_relations r caller file).no_other why e))
+
+not_memory : IsReason refusals.NoMemory → ⊥
+not_memory (inl e) = cc
+not_memory (inr (inl e)) = cc
+not_memory (inr (inr (inl e))) = cc
+not_memory (inr (inr (inr (inl e)))) = cc
+not_memory (inr (inr (inr (inr (inl e))))) = cc
+not_memory (inr (inr (inr (inr (inr e))))) = cc
+
+not_full : IsReason refusals.JournalFull → ⊥
+not_full (inl e) = cc
+not_full (inr (inl e)) = cc
+not_full (inr (inr (inl e))) = cc
+not_full (inr (inr (inr (inl e)))) = cc
+not_full (inr (inr (inr (inr (inl e))))) = cc
+not_full (inr (inr (inr (inr (inr e))))) = cc
+
+not_unkept : IsReason refusals.NotKept → ⊥
+not_unkept (inl e) = cc
+not_unkept (inr (inl e)) = cc
+not_unkept (inr (inr (inl e))) = cc
+not_unkept (inr (inr (inr (inl e)))) = cc
+not_unkept (inr (inr (inr (inr (inl e))))) = cc
+not_unkept (inr (inr (inr (inr (inr e))))) = cc
+
+pub never_no_memory : NotFound → NeverLacks refusals.NoMemory
+never_no_memory not_found = record { never = λ r caller command e. not_memory (reasons not_found r caller command _ e) }
+
+pub never_full : NotFound → NeverLacks refusals.JournalFull
+never_full not_found = record { never = λ r caller command e. not_full (reasons not_found r caller command _ e) }
+
+pub never_unkept : NotFound → NeverLacks refusals.NotKept
+never_unkept not_found = record { never = λ r caller command e. not_unkept (reasons not_found r caller command _ e) }

@@ -2,3 +2,4 @@ pub mod Branches
 pub mod Causes
 pub mod Fitting
 pub mod Refusing
+pub mod Changing

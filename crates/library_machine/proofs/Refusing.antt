@@ -1,17 +1,19 @@
 -- A refused command leaves the records as they were.
-use Rattle.std.proofs.Common.{◌≡◌, ℕ, Bool, true, false, Option, Some, None, refl, subst, sym, ap, ◌∙◌}
+use Rattle.std.proofs.Common.{◌≡◌, ℕ, Bool, true, false, Option, Some, None, refl, subst, sym, ◌∙◌}
 use Rattle.media_types.specs.declared.decision.Decision.{Decision}
 use Rattle.media_types.specs.declared.new_file.NewFile.{NewFile}
+use Rattle.media_types.specs.declared.numbers.DecisionNo.{DecisionNo}
 use Rattle.media_types.specs.declared.numbers.FileNo.{FileNo}
 use Rattle.media_base.specs.declared.command.Caller.TheVariants.{Console}
 use Rattle.media_base.specs.declared.command.Command.TheVariants as commands
 use Rattle.media_base.specs.declared.refusal.Refusal.{Refusal}
 use Rattle.media_base.specs.declared.reply.Reply.TheVariants.{Refused}
+use Rattle.decision_book.specs.declared.decision_row.DecisionRow.{DecisionRow}
 use Rattle.library_machine.specs.Laws.{RefusalsChangeNothing, RefusedAnswersChangeNothing}
 use Rattle.library_machine.specs.Records.{Records}
 use Rattle.file_records.specs.Lookup.{file_with}
-use Rattle.library_machine.specs.Step.{Outcome, step, import, import_at, by_step, no_memory}
-use Rattle.library_machine.proofs.Branches.{import_by, decide_by, decide_is, relations_by, relations_is}
+use Rattle.library_machine.specs.Step.{Outcome, step, import, import_at, undo_at, by_step, no_memory, journal_full, not_kept}
+use Rattle.library_machine.proofs.Branches.{import_by, decide_by, decide_is, undo_by, undo_is, relations_by, relations_is}
 
 -- where the outcome is a refusal, its records are these
 abbrev KeepsIfRefused : Records → Outcome → Type 0
@@ -31,6 +33,14 @@ decision_keeps r d true true room why e = refl
 decision_keeps r d true false true why e = absurd (cc)
 decision_keeps r d true false false why e = refl
 
+undoing_keeps : (r : Records) (n : DecisionNo) (undone : Bool) → KeepsIfRefused r (undo_by r n undone)
+undoing_keeps r n true why e = refl
+undoing_keeps r n false why e = absurd (cc)
+
+undo_keeps : (r : Records) (n : DecisionNo) (row : Option DecisionRow) → KeepsIfRefused r (undo_at r n row)
+undo_keeps r n None why e = refl
+undo_keeps r n (Some row) why e = undoing_keeps r n row.undone why e
+
 relations_keep : (r : Records) (file : FileNo) (there : Bool) → KeepsIfRefused r (relations_by r file there)
 relations_keep r file true why e = refl
 relations_keep r file false why e = refl
@@ -40,10 +50,14 @@ unfolding step import
 refusals_change_nothing r Console (commands.Import file) = import_keeps r file (file_with file.sha r.files)
 refusals_change_nothing r Console (commands.Decide d) =
     subst (KeepsIfRefused r) (sym (decide_is r d)) (decision_keeps r d _ _ _)
+refusals_change_nothing r Console (commands.Undo n) =
+    subst (KeepsIfRefused r) (sym (undo_is r n)) (undo_keeps r n _)
 refusals_change_nothing r Console (commands.Relations file) =
     subst (KeepsIfRefused r) (sym (relations_is r file)) (relations_keep r file _)
 
 pub refused_answers_change_nothing : RefusedAnswersChangeNothing
-refused_answers_change_nothing r caller command why after (by_step is) =
-    sym (ap (λ (o : Outcome). o.records) is) ∙ refusals_change_nothing r caller command why (ap (λ (o : Outcome). o.reply) is)
+refused_answers_change_nothing r caller command why after (by_step reply records) =
+    sym records ∙ refusals_change_nothing r caller command why reply
 refused_answers_change_nothing r caller command why after (no_memory want same) = same
+refused_answers_change_nothing r caller command why after (journal_full some want same) = same
+refused_answers_change_nothing r caller command why after (not_kept some want same) = same

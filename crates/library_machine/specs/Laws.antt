@@ -1,9 +1,10 @@
 -- What holds of each step of the machine.
-use Rattle.std.specs.Prelude.{◌≡◌, ◌≢◌, ◌↔◌, ◌⊎◌, None}
+use Rattle.std.specs.Prelude.{◌≡◌, ◌≢◌, ◌≤◌, ◌↔◌, ◌⊎◌, Some, None, true, length}
 use Rattle.media_types.specs.declared.decision.Decision.{Decision}
-use Rattle.media_types.specs.declared.hash.Sha.{Sha}
 use Rattle.media_types.specs.declared.new_file.NewFile.{NewFile}
+use Rattle.media_types.specs.declared.numbers.DecisionNo.{DecisionNo}
 use Rattle.media_types.specs.declared.numbers.FileNo.{FileNo}
+use Rattle.media_base.specs.declared.change.Change.{Change}
 use Rattle.media_base.specs.declared.command.Caller.{Caller}
 use Rattle.media_base.specs.declared.command.Command.{Command}
 use Rattle.media_base.specs.declared.command.Command.TheVariants as commands
@@ -11,8 +12,8 @@ use Rattle.media_base.specs.declared.refusal.Refusal.{Refusal}
 use Rattle.media_base.specs.declared.refusal.Refusal.TheVariants as refusals
 use Rattle.media_base.specs.declared.reply.Reply.{Reply}
 use Rattle.media_base.specs.declared.reply.Reply.TheVariants.{Refused}
-use Rattle.file_records.specs.Lookup.{file_with}
-use Rattle.library_machine.specs.Records.{Records, Fits, IsThere, IsNew, IsFullOfFiles, IsFullOfDecisions}
+use Rattle.library_machine.specs.Changes.{after_change}
+use Rattle.library_machine.specs.Records.{Records, Fits, IsThere, IsNew, IsRecorded, IsFullOfFiles, IsFullOfDecisions}
 use Rattle.library_machine.specs.Step.{Answered, step}
 
 -- a refused command leaves the records as they were
@@ -25,10 +26,19 @@ abbrev pub RefusedAnswersChangeNothing : Type 0
 RefusedAnswersChangeNothing = (r : Records) (caller : Caller) (command : Command) (why : Refusal) (after : Records) →
     Answered r caller command (Refused why) after → after ≡ r
 
--- the step itself never lacks memory
-abbrev pub NeverNoMemory : Type 0
-NeverNoMemory = (r : Records) (caller : Caller) (command : Command) →
-    (step r caller command).reply ≢ Refused refusals.NoMemory
+-- the step itself never lacks memory or room, and its changes are kept
+pub record NeverLacks (why : Refusal) : Type 0 where
+  pub never : (r : Records) (caller : Caller) (command : Command) → (step r caller command).reply ≢ Refused why
+
+-- a step has a change exactly where it leaves other records
+abbrev pub ChangesAreTold : Type 0
+ChangesAreTold = (r : Records) (caller : Caller) (command : Command) →
+    ((step r caller command).change ≡ None) ↔ ((step r caller command).records ≡ r)
+
+-- the change of a step leads to the records of the step
+abbrev pub ChangesLead : Type 0
+ChangesLead = (r : Records) (caller : Caller) (command : Command) (change : Change) →
+    (step r caller command).change ≡ Some change → after_change r change ≡ Some (step r caller command).records
 
 -- records that fit still fit after a step
 abbrev pub StepsKeepFit : Type 0
@@ -44,10 +54,6 @@ AnswersKeepFit = (r : Records) (caller : Caller) (command : Command) (reply : Re
 abbrev pub Refuses : Records → Caller → Command → Refusal → Type 0
 Refuses r caller command why = (step r caller command).reply ≡ Refused why
 
--- a file isn't found exactly where its SHA-256 is new
-abbrev pub NotFoundIsNew : Type 0
-NotFoundIsNew = (r : Records) (sha : Sha) → (file_with sha r.files ≡ None) ↔ IsNew r sha
-
 -- Why an import is refused: the files are full, and the SHA-256 is new.
 pub record RefusesImports (r : Records) (caller : Caller) (file : NewFile) : Type 0 where
   pub full_files : Refuses r caller (commands.Import file) refusals.FullFiles ↔ (IsFullOfFiles r × IsNew r file.sha)
@@ -62,6 +68,13 @@ pub record RefusesDecisions (r : Records) (caller : Caller) (d : Decision) : Typ
       ↔ (IsThere r d.a × IsThere r d.b × (d.a ≢ d.b) × IsFullOfDecisions r)
   pub no_other : (why : Refusal) → Refuses r caller (commands.Decide d) why →
       (why ≡ refusals.UnknownFile) ⊎ (why ≡ refusals.SameFile) ⊎ (why ≡ refusals.FullDecisions)
+
+-- Why an undoing is refused: no decision has the number; it has one that is undone.
+pub record RefusesUndoing (r : Records) (caller : Caller) (n : DecisionNo) : Type 0 where
+  pub unknown_decision : Refuses r caller (commands.Undo n) refusals.UnknownDecision ↔ (length r.decisions ≤ n.0)
+  pub already_undone : Refuses r caller (commands.Undo n) refusals.AlreadyUndone ↔ IsRecorded r n true
+  pub no_other : (why : Refusal) → Refuses r caller (commands.Undo n) why →
+      (why ≡ refusals.UnknownDecision) ⊎ (why ≡ refusals.AlreadyUndone)
 
 -- Why relations are refused: the file isn't there.
 pub record RefusesRelations (r : Records) (caller : Caller) (file : FileNo) : Type 0 where

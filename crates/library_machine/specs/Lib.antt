@@ -1,3 +1,4 @@
+pub mod Changes
 pub mod Laws
 pub mod Records
 pub mod Session
@@ -6,5 +7,6 @@ pub mod Worked
 pub use Rattle.media_base.specs.Names
 pub use Rattle.file_records.specs.Lookup
 pub use Rattle.file_records.specs.Rows
+pub use Rattle.decision_book.specs.Recorded
 pub use Rattle.decision_book.specs.Standing
 pub use Rattle.relation_groups.specs.Relations

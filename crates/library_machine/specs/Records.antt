@@ -1,12 +1,14 @@
 -- What a library records, and nothing else. All that it tells is computed from these lists.
-use Rattle.std.specs.Prelude.{◌≢◌, ◌<◌, ◌≤◌, List, [], length, map, All}
+use Rattle.std.specs.Prelude.{◌≡◌, ◌<◌, ◌≤◌, Bool, List, [], length, map, Some, slice_get}
 use Rattle.media_types.specs.declared.hash.Sha.{Sha}
 use Rattle.media_types.specs.declared.limits.TheConstants.{MAX_DECISIONS, MAX_FILES}
+use Rattle.media_types.specs.declared.numbers.DecisionNo.{DecisionNo}
 use Rattle.media_types.specs.declared.numbers.FileNo.{FileNo}
 use Rattle.file_records.specs.declared.file_row.FileRow.{FileRow}
-use Rattle.file_records.specs.Lookup.{IsUnknown}
+use Rattle.file_records.specs.Lookup.{AreDistinct, IsUnknown}
 use Rattle.decision_book.specs.declared.decision_row.DecisionRow.{DecisionRow}
 use Rattle.decision_book.specs.Standing.{decision_of}
+use Rattle.relation_groups.specs.Laws.{AreOfTwo}
 use Rattle.relation_groups.specs.Relations.{AreAmong}
 
 pub record Records : Type 0 where
@@ -18,11 +20,14 @@ pub record Records : Type 0 where
 abbrev pub no_records : Records
 no_records = record { files = []; decisions = [] }
 
--- What records of every session are: within the limits, and each decision is of two files that are there.
+-- What records of every session are: within the limits, with no two files of one SHA-256, and each
+-- decision is of two different files that are there.
 pub record Fits (r : Records) : Type 0 where
   pub few_files : length r.files ≤ MAX_FILES
   pub few_decisions : length r.decisions ≤ MAX_DECISIONS
+  pub distinct : AreDistinct r.files
   pub among : AreAmong (length r.files) (map decision_of r.decisions)
+  pub of_two : AreOfTwo (map decision_of r.decisions)
 
 -- a file with this number is recorded
 abbrev pub IsThere : Records → FileNo → Type 0
@@ -31,6 +36,10 @@ IsThere r file = file.0 < length r.files
 -- no file has this SHA-256
 abbrev pub IsNew : Records → Sha → Type 0
 IsNew r sha = IsUnknown sha r.files
+
+-- the decision of this number is recorded, and is undone or not
+abbrev pub IsRecorded : Records → DecisionNo → Bool → Type 0
+IsRecorded r n undone = (row : DecisionRow) × (slice_get r.decisions n.0 ≡ Some row) × (row.undone ≡ undone)
 
 -- there are as many files as a library holds
 abbrev pub IsFullOfFiles : Records → Type 0

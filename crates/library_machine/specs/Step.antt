@@ -1,10 +1,12 @@
 -- The machine: what one command answers, and what is recorded after it.
-use Rattle.std.specs.Prelude.{◌≡◌, ℕ, Bool, ◌==◌, ◌&&◌, not, if◌then◌else◌, List, [], ◌∷◌, ◌++◌, length, position, nat_lt, Option, Some, None, bytes_eq}
+use Rattle.std.specs.Prelude.{◌≡◌, ℕ, Bool, ◌==◌, ◌&&◌, not, if◌then◌else◌, [], ◌∷◌, ◌++◌, length, nat_lt, Option, Some, None, IsSome, slice_get}
 use Rattle.media_types.specs.declared.decision.Decision.{Decision}
-use Rattle.media_types.specs.declared.hash.Sha.{Sha}
 use Rattle.media_types.specs.declared.limits.TheConstants.{MAX_DECISIONS, MAX_FILES}
 use Rattle.media_types.specs.declared.new_file.NewFile.{NewFile}
+use Rattle.media_types.specs.declared.numbers.DecisionNo.{DecisionNo}
 use Rattle.media_types.specs.declared.numbers.FileNo.{FileNo}
+use Rattle.media_base.specs.declared.change.Change.{Change}
+use Rattle.media_base.specs.declared.change.Change.TheVariants as changes
 use Rattle.media_base.specs.declared.command.Caller.{Caller}
 use Rattle.media_base.specs.declared.command.Caller.TheVariants as callers
 use Rattle.media_base.specs.declared.command.Command.{Command}
@@ -14,35 +16,44 @@ use Rattle.media_base.specs.declared.refusal.Refusal.TheVariants as refusals
 use Rattle.media_base.specs.declared.reply.ImportStatus.TheVariants as imports
 use Rattle.media_base.specs.declared.reply.Reply.{Reply}
 use Rattle.media_base.specs.declared.reply.Reply.TheVariants as replies
-use Rattle.file_records.specs.declared.file_row.FileRow.{FileRow}
 use Rattle.file_records.specs.Lookup.{file_with}
 use Rattle.file_records.specs.Rows.{row_of}
+use Rattle.decision_book.specs.declared.decision_row.DecisionRow.{DecisionRow}
+use Rattle.decision_book.specs.Recorded.{undone_at}
 use Rattle.decision_book.specs.Standing as book
 use Rattle.relation_groups.specs.Relations.{relations_at}
 use Rattle.library_machine.specs.Records.{Records}
 
+-- what is recorded then, the reply, and the change that is to be kept, where the records change
 pub record Outcome : Type 0 where
   pub records : Records
   pub reply : Reply
+  pub change : Option Change
+
+-- a command that changes nothing
+abbrev pub told : Records → Reply → Outcome
+told r reply = record { records = r; reply = reply; change = None }
 
 -- a refused command changes nothing
 abbrev pub refused : Records → Refusal → Outcome
-refused r why = record { records = r; reply = replies.Refused why }
+refused r why = told r (replies.Refused why)
+
+-- a command that changes the records
+abbrev pub changed : Records → Reply → Change → Outcome
+changed after reply change = record { records = after; reply = reply; change = Some change }
 
 abbrev pub has_file : Records → FileNo → Bool
 has_file r file = nat_lt file.0 (length r.files)
 
 -- A known file stays as it is. A new one goes last, while there is room for it.
 abbrev pub import_at : Records → NewFile → Option ℕ → Outcome
-import_at r file (Some at) = record {
-  records = r;
-  reply = replies.Imported (record { file = record { 0 = at }; status = imports.Known });
-}
+import_at r file (Some at) =
+    told r (replies.Imported (record { file = record { 0 = at }; status = imports.Known }))
 import_at r file None =
-    if nat_lt (length r.files) MAX_FILES then record {
-      records = record r { files = r.files ++ row_of file ∷ [] };
-      reply = replies.Imported (record { file = record { 0 = length r.files }; status = imports.New });
-    }
+    if nat_lt (length r.files) MAX_FILES then changed
+    (record r { files = r.files ++ row_of file ∷ [] })
+    (replies.Imported (record { file = record { 0 = length r.files }; status = imports.New }))
+    (changes.File file)
     else refused r refusals.FullFiles
 
 unfoldable pub import : Records → NewFile → Outcome
@@ -53,28 +64,40 @@ unfoldable pub decide : Records → Decision → Outcome
 decide r d =
     if not (has_file r d.a && has_file r d.b) then refused r refusals.UnknownFile
     else if d.a.0 == d.b.0 then refused r refusals.SameFile
-    else if nat_lt (length r.decisions) MAX_DECISIONS then record {
-      records = record r { decisions = r.decisions ++ book.row_of d ∷ [] };
-      reply = replies.Decided (record { 0 = length r.decisions });
-    }
+    else if nat_lt (length r.decisions) MAX_DECISIONS then changed
+    (record r { decisions = r.decisions ++ book.row_of d ∷ [] })
+    (replies.Decided (record { 0 = length r.decisions }))
+    (changes.Decision d)
     else refused r refusals.FullDecisions
+
+-- A decision that stands is marked as undone. What stands then is made of all others.
+abbrev pub undo_at : Records → DecisionNo → Option DecisionRow → Outcome
+undo_at r n None = refused r refusals.UnknownDecision
+undo_at r n (Some row) =
+    if row.undone then refused r refusals.AlreadyUndone
+    else changed (record r { decisions = undone_at n.0 r.decisions }) (replies.Undone n) (changes.Undo n)
+
+unfoldable pub undo : Records → DecisionNo → Outcome
+undo r n = undo_at r n (slice_get r.decisions n.0)
 
 -- The relations of a file are those that the standing decisions make, computed anew.
 unfoldable pub relations : Records → FileNo → Outcome
 relations r file =
-    if has_file r file then record {
-      records = r;
-      reply = replies.Relations (relations_at (length r.files) (book.standing r.decisions) file);
-    }
+    if has_file r file then
+    told r (replies.Relations (relations_at (length r.files) (book.standing r.decisions) file))
     else refused r refusals.UnknownFile
 
 unfoldable pub step : Records → Caller → Command → Outcome
 step r callers.Console (commands.Import file) = import r file
 step r callers.Console (commands.Decide d) = decide r d
+step r callers.Console (commands.Undo n) = undo r n
 step r callers.Console (commands.Relations file) = relations r file
 
--- What may be answered: the step's reply, with the step's records after it, or want of memory, which
--- changes nothing.
+-- What may be answered: the step's reply, with the step's records after it, or want of memory; or, where
+-- the records would change, that there is no room to keep the change, or that it wasn't kept. But for the
+-- step's own reply nothing changes.
 pub data Answered (r : Records) (caller : Caller) (command : Command) (reply : Reply) (after : Records) : Type 0 where
-  by_step : step r caller command ≡ record { records = after; reply = reply } → Answered r caller command reply after
+  by_step : (step r caller command).reply ≡ reply → (step r caller command).records ≡ after → Answered r caller command reply after
   no_memory : reply ≡ replies.Refused refusals.NoMemory → after ≡ r → Answered r caller command reply after
+  journal_full : IsSome (step r caller command).change → reply ≡ replies.Refused refusals.JournalFull → after ≡ r → Answered r caller command reply after
+  not_kept : IsSome (step r caller command).change → reply ≡ replies.Refused refusals.NotKept → after ≡ r → Answered r caller command reply after

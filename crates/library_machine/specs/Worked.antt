@@ -1,5 +1,6 @@
 -- Words for small sessions.
 use Rattle.std.specs.Prelude.{ℕ, List, [], map, replicate}
+use Rattle.media_types.specs.declared.decision.Code.{Code}
 use Rattle.media_types.specs.declared.decision.Code.TheVariants.{Better}
 use Rattle.media_types.specs.declared.numbers.FileNo.{FileNo}
 use Rattle.media_base.specs.declared.command.Command.{Command}
@@ -21,9 +22,17 @@ import_of k = commands.Import (record {
   height = 2;
 })
 
+-- a decision of files a and b
+abbrev pub decide_of : Code → ℕ → ℕ → Command
+decide_of code a b = commands.Decide (record { code = code; a = file a; b = file b })
+
 -- the decision that file a is better than file b
 abbrev pub better_than : ℕ → ℕ → Command
-better_than a b = commands.Decide (record { code = Better; a = file a; b = file b })
+better_than = decide_of Better
+
+-- the undoing of decision n
+abbrev pub undo_of : ℕ → Command
+undo_of n = commands.Undo (record { 0 = n })
 
 -- the question how file k is related
 abbrev pub relations_of : ℕ → Command
@@ -36,11 +45,19 @@ imported k status = answers.Imported (record { file = file k; status = status })
 abbrev pub decided : ℕ → Reply
 decided n = answers.Decided (record { 0 = n })
 
--- the file's king and the members of its group, where no other group is related to it
-abbrev pub grouped : ℕ → List ℕ → Reply
-grouped king members = answers.Relations (record {
+-- decision n is undone now
+abbrev pub undone : ℕ → Reply
+undone n = answers.Undone (record { 0 = n })
+
+-- how a file stands
+abbrev pub standing : ℕ → List ℕ → List ℕ → List ℕ → Reply
+standing king members alternates not_related = answers.Relations (record {
   king = file king;
   members = map file members;
-  alternates = [];
-  not_related = [];
+  alternates = map file alternates;
+  not_related = map file not_related;
 })
+
+-- the file's king and the members of its group, where no other group is related to it
+abbrev pub grouped : ℕ → List ℕ → Reply
+grouped king members = standing king members [] []

@@ -1,10 +1,12 @@
 ghost use Rattle.std.specs.Prelude.{◌≡◌};
 ghost use Rattle.media_types.specs.declared.decision.Decision.{Decision};
 ghost use Rattle.media_types.specs.declared.new_file.NewFile.{NewFile};
+ghost use Rattle.media_types.specs.declared.numbers.DecisionNo.{DecisionNo};
 ghost use Rattle.media_types.specs.declared.numbers.FileNo.{FileNo};
 ghost use Rattle.media_base.specs.declared.command.Caller.{Caller};
+ghost use Rattle.media_base.specs.declared.refusal.Refusal.TheVariants as refusals;
 ghost use Rattle.library_machine.specs.Records.{Records, Fits, no_records};
-ghost use Rattle.library_machine.specs.Laws.{RefusalsChangeNothing, RefusedAnswersChangeNothing, NeverNoMemory, StepsKeepFit, AnswersKeepFit, NotFoundIsNew, RefusesImports, RefusesDecisions, RefusesRelations};
+ghost use Rattle.library_machine.specs.Laws.{RefusalsChangeNothing, RefusedAnswersChangeNothing, NeverLacks, StepsKeepFit, AnswersKeepFit, ChangesAreTold, ChangesLead, RefusesImports, RefusesDecisions, RefusesUndoing, RefusesRelations};
 
 /// A refused command changes nothing.
 pub fn refusals_change_nothing()
@@ -12,22 +14,38 @@ pub fn refusals_change_nothing()
     ensures in_an_answer { RefusedAnswersChangeNothing }
 {}
 
-/// The step itself never lacks memory: only the library does, and then nothing changes.
-pub fn never_no_memory()
-    ensures { NeverNoMemory }
-{}
+/// The step itself never lacks memory or room, and never fails to keep a change: only the library and
+/// its keeper do, and then nothing changes.
+pub fn steps_never_lack()
+    ensures memory { NeverLacks refusals.NoMemory }
+    ensures room { NeverLacks refusals.JournalFull }
+    ensures keeping { NeverLacks refusals.NotKept }
+{
+    file_records::laws();
+}
 
-/// The records of every session are within the limits, and each decision is of files that are there.
+/// The records of every session are within the limits, with no two files of one SHA-256, and each decision
+/// is of two different files that are there.
 pub fn records_stay_fit()
     ensures at_first { Fits no_records }
     ensures after_a_step { StepsKeepFit }
     ensures after_an_answer { AnswersKeepFit }
-{}
+{
+    file_records::laws();
+}
 
 /// Exactly when the step gives each refusal.
 pub fn refusals_have_causes()
-    ensures not_found { NotFoundIsNew }
     ensures imports { (r : Records) (caller : Caller) (file : NewFile) → RefusesImports r caller file }
     ensures decisions { (r : Records) (caller : Caller) (d : Decision) → RefusesDecisions r caller d }
+    ensures undoing { (r : Records) (caller : Caller) (n : DecisionNo) → RefusesUndoing r caller n }
     ensures relations { (r : Records) (caller : Caller) (file : FileNo) → RefusesRelations r caller file }
+{
+    file_records::laws();
+}
+
+/// A step tells a change exactly where the records change, and the change alone leads to the same records.
+pub fn changes_are_kept()
+    ensures told { ChangesAreTold }
+    ensures lead { ChangesLead }
 {}

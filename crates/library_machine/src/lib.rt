@@ -7,5 +7,8 @@
 mod laws;
 mod worked;
 
-pub use laws::{never_no_memory, records_stay_fit, refusals_change_nothing, refusals_have_causes};
+pub use laws::{
+    changes_are_kept, records_stay_fit, refusals_change_nothing, refusals_have_causes,
+    steps_never_lack,
+};
 pub use worked::worked_rows;
