@@ -1,4 +1,5 @@
 pub mod GatherLaws
+pub mod Keeping
 pub mod Names
 pub mod Scripts
 pub mod Transfer

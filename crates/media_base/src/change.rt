@@ -1,4 +1,7 @@
-use media_types::{Decision, DecisionNo, NewFile};
+ghost use Rattle.std.specs.Prelude.{◌≡◌, IfOk};
+
+use media_types::{Decision, DecisionNo, Listed, NewFile, NoMemory};
+use std::alloc::Global;
 
 /// A change of the records, as it is kept: what a command did, without the answer.
 #[derive(Debug, Drop)]
@@ -9,4 +12,20 @@ pub enum Change {
     Decision(Decision),
     /// The decision of this number was undone.
     Undo(DecisionNo),
+}
+
+/// Changes, in the order in which they were kept.
+pub type ChangeList = Listed<Change>;
+
+impl Change {
+    /// The same once more.
+    pub fn copied(&self, alloc: Global) -> Result<Change, NoMemory>
+        ensures { IfOk result (λ change. change ≡ self.now) }
+    {
+        match self {
+            Change::File(file) => Ok(Change::File(file.copied(alloc)?)),
+            Change::Decision(decision) => Ok(Change::Decision(*decision)),
+            Change::Undo(decision) => Ok(Change::Undo(*decision)),
+        }
+    }
 }

@@ -9,6 +9,7 @@ mod bytes_source;
 mod change;
 mod command;
 mod gather;
+mod keeper;
 mod refusal;
 mod reply;
 mod sink;
@@ -17,9 +18,10 @@ mod status;
 
 pub use bytes_sink::BytesSink;
 pub use bytes_source::BytesSource;
-pub use change::Change;
+pub use change::{Change, ChangeList};
 pub use command::{Caller, Command};
 pub use gather::Gather;
+pub use keeper::{Keeper, NextFault, PutFault, StartFault};
 pub use media_types::{
     ByteList, CallList, Code, Decision, DecisionList, DecisionNo, DeskNo, Failed, FileHashes,
     FileList, FileNo, FileRelations, Hash64, HashList, HashNo, KeyBytes, KeyNo, Listed,
