@@ -49,6 +49,7 @@ fn assert_book<L: Ledger>(
     assert_eq!(rt; number, DecisionNo(0));
     assert_eq!(rt; book.standing(alloc)?.as_slice(), [better(0, 1)].as_slice());
     assert!(rt; !book.row(number, &mut steps).undone);
+    assert!(rt; book.standing_without(number, alloc)?.is_empty());
     book.undo(number);
     assert!(rt; book.standing(alloc)?.is_empty());
     assert!(rt; book.len() == 1);

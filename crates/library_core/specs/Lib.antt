@@ -1,3 +1,3 @@
-pub mod Performed
+pub mod Tables
 pub use Rattle.library_machine.specs.Records
 pub use Rattle.library_machine.specs.Step

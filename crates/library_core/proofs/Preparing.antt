@@ -1,0 +1,180 @@
+-- What is prepared for a command is its outcome.
+use Rattle.std.proofs.Common.{◌≡◌, ◌≢◌, ◌<◌, ◌≤◌, ℕ, Bool, true, false, not, cond, nat_lt, ◌==◌, ◌&&◌, Option, Some, None, List, [], ◌∷◌, ◌++◌, length, map, slice_get, refl, arith, ap, subst, sym, ◌∙◌}
+use Rattle.std.specs.List.{filter}
+use Rattle.std.proofs.lemmas.Bool.{ltb-true, eqb-false, and_parts, lt-ltb}
+use Rattle.std.proofs.lemmas.Option.{same_Some, slice_get_within}
+use Rattle.media_types.specs.declared.decision.Decision.{Decision}
+use Rattle.media_types.specs.declared.file_relations.FileRelations.{FileRelations}
+use Rattle.media_types.specs.declared.limits.TheConstants.{MAX_DECISIONS, MAX_FILES}
+use Rattle.media_types.specs.declared.new_file.NewFile.{NewFile}
+use Rattle.media_types.specs.declared.numbers.DecisionNo.{DecisionNo}
+use Rattle.media_types.specs.declared.numbers.FileNo.{FileNo}
+use Rattle.media_base.specs.declared.change.Change.TheVariants as changes
+use Rattle.media_base.specs.declared.command.Caller.TheVariants.{Console}
+use Rattle.media_base.specs.declared.command.Command.TheVariants as commands
+use Rattle.media_base.specs.declared.reply.ImportStatus.TheVariants as imports
+use Rattle.media_base.specs.declared.reply.Reply.TheVariants as replies
+use Rattle.spare_tables.specs.Table.{Table}
+use Rattle.file_records.specs.Importing.{IsPlannedFor}
+use Rattle.file_records.specs.Lookup.{file_with}
+use Rattle.file_records.specs.Rows.{row_of}
+use Rattle.file_records.specs.declared.file_row.FileRow.{FileRow}
+use Rattle.decision_book.specs.declared.decision_row.DecisionRow.{DecisionRow}
+use Rattle.decision_book.specs.Recorded.{Recorded, undone_at}
+use Rattle.decision_book.specs.Standing as book
+use Rattle.relation_groups.specs.Reading.{Kept, IsPlanFor, Planned, relations_after, relations_in, size_of}
+use Rattle.relation_groups.specs.Relations.{Relations, after, by_code, decided, relations, relations_at, standing_of}
+use Rattle.library_machine.specs.Laws.{StepsKeepFit}
+use Rattle.library_machine.specs.Records.{Records, Fits}
+use Rattle.library_machine.specs.Step as machine
+use Rattle.library_machine.specs.Step.{Outcome, told, changed, has_file, import, decide, undo, step}
+use Rattle.library_core.specs.Tables.{TablesView, AreInStep, IsPrepared, LeadsImport, LeadsDecide, LeadsUndo, records_of}
+use Rattle.library_core.specs.declared.plan.Prepared.TheVariants as prepared
+use Rattle.library_core.specs.declared.plan.TablesPlan.TheVariants as plans
+
+-- ---- imports
+
+import_fits : StepsKeepFit → (r : Records) (file : NewFile) → Fits r → Fits (import r file).records
+unfolding step
+import_fits keep r file fits = keep r Console (commands.Import file) fits
+
+-- a new file, where there is room
+import_takes : (r : Records) (file : NewFile) → file_with file.sha r.files ≡ None → nat_lt (length r.files) MAX_FILES ≡ true →
+    import r file ≡ changed (record r { files = r.files ++ row_of file ∷ [] })
+    (replies.Imported (record { file = record { 0 = length r.files }; status = imports.New })) (changes.File file)
+unfolding import
+import_takes r file new room = rw (new, room) refl
+
+pub import_prepared : (old : TablesView) (files : Table FileRow) (book : Recorded) (groups : Kept) (file copy : NewFile) (row : FileRow) (count : ℕ) →
+    StepsKeepFit → AreInStep old →
+    files.rows ≡ old.files.rows → book.rows ≡ old.book.rows → 1 ≤ book.spare → 1 ≤ groups.room →
+    file_with file.sha old.files.rows ≡ None → nat_lt (length old.files.rows) MAX_FILES ≡ true → count ≡ length old.files.rows →
+    copy ≡ file → row ≡ row_of file → IsPlannedFor row files →
+    IsPrepared (import (records_of old) file) (record { files = files; book = book; groups = groups })
+    (prepared.Change (plans.Import row) (changes.File copy) (replies.Imported (record { file = record { 0 = count }; status = imports.New })))
+import_prepared old files book groups file copy row count keep step same_files same_book book_room group_room new room is same is_row planned =
+    let r = records_of old in
+    let o = import_takes r file new room in
+    let fits = import_fits keep r file step.fits in (
+      ap (λ (o : Outcome). o.change) o ∙ ap (λ (f : NewFile). Some (changes.File f)) (sym same),
+      ap (λ (o : Outcome). o.reply) o ∙ ap (λ (n : ℕ). replies.Imported (record { file = record { 0 = n }; status = imports.New })) (sym is),
+      record {
+        planned = planned;
+        book_room = book_room;
+        group_room = group_room;
+        fits = fits;
+        leads = ap (λ (o : Outcome). o.records) o ∙ rw (same_files, same_book, is_row) refl;
+      },
+    )
+
+-- ---- decisions
+
+decide_fits : StepsKeepFit → (r : Records) (d : Decision) → Fits r → Fits (decide r d).records
+unfolding step
+decide_fits keep r d fits = keep r Console (commands.Decide d) fits
+
+-- a decision of two files that are there, where there is room
+decide_takes : (r : Records) (d : Decision) →
+    (has_file r d.a && has_file r d.b) ≡ true → (d.a.0 == d.b.0) ≡ false → nat_lt (length r.decisions) MAX_DECISIONS ≡ true →
+    decide r d ≡ changed (record r { decisions = r.decisions ++ book.row_of d ∷ [] })
+    (replies.Decided (record { 0 = length r.decisions })) (changes.Decision d)
+unfolding decide
+decide_takes r d there two room = rw (there, two, room) refl
+
+-- one more decision is made after all others
+after_one : (R : Relations) (ds : List Decision) (d : Decision) → after R (ds ++ d ∷ []) ≡ decided d (after R ds)
+after_one R [] d = refl
+after_one R (first ∷ ds) d = after_one (decided first R) ds d
+
+standing_more : (rows : List DecisionRow) (row : DecisionRow) (d : Decision) (u : Bool) →
+    book.standing (rows ++ book.row_of d ∷ []) ≡ book.standing rows ++ d ∷ [] →
+    map book.decision_of (cond (not u) (row ∷ filter (λ r. not r.undone) (rows ++ book.row_of d ∷ [])) (filter (λ r. not r.undone) (rows ++ book.row_of d ∷ [])))
+    ≡ map book.decision_of (cond (not u) (row ∷ filter (λ r. not r.undone) rows) (filter (λ r. not r.undone) rows)) ++ d ∷ []
+standing_more rows row d true rest = rest
+standing_more rows row d false rest = ap (λ ds. book.decision_of row ∷ ds) rest
+
+-- and stands behind them
+standing_one : (rows : List DecisionRow) (d : Decision) → book.standing (rows ++ book.row_of d ∷ []) ≡ book.standing rows ++ d ∷ []
+standing_one [] d = refl
+standing_one (row ∷ rows) d = standing_more rows row d row.undone (standing_one rows d)
+
+pub decide_prepared : (old : TablesView) (rows : Recorded) (groups : Kept) (d : Decision) (plan : Planned) (count : ℕ) →
+    StepsKeepFit → AreInStep old →
+    rows.rows ≡ old.book.rows → 1 ≤ rows.spare → groups ≡ old.groups →
+    (has_file (records_of old) d.a && has_file (records_of old) d.b) ≡ true → (d.a.0 == d.b.0) ≡ false →
+    nat_lt (length old.book.rows) MAX_DECISIONS ≡ true → count ≡ length old.book.rows →
+    IsPlanFor plan groups → relations_after plan groups ≡ by_code d.code d.a.0 d.b.0 (relations_in old.groups) →
+    IsPrepared (decide (records_of old) d) (record { files = old.files; book = rows; groups = groups })
+    (prepared.Change (plans.Decide d plan) (changes.Decision d) (replies.Decided (record { 0 = count })))
+decide_prepared old rows groups d plan count keep step same room same_groups there two few is planned related =
+    let r = records_of old in
+    let o = decide_takes r d there two few in
+    let both = and_parts _ _ there in (
+      ap (λ (o : Outcome). o.change) o,
+      ap (λ (o : Outcome). o.reply) o ∙ ap (λ (n : ℕ). replies.Decided (record { 0 = n })) (sym is),
+      record {
+        known = (ltb-true _ _ both.0, ltb-true _ _ both.1);
+        two = eqb-false _ _ two;
+        few = rw same (ltb-true _ _ few);
+        room = room;
+        planned = planned;
+        related = related ∙ ap (decided d) step.related ∙ sym (after_one _ (book.standing old.book.rows) d) ∙ ap relations (sym (standing_one old.book.rows d)) ∙ rw same refl;
+        fits = decide_fits keep r d step.fits;
+        leads = ap (λ (o : Outcome). o.records) o ∙ rw same refl;
+      },
+    )
+
+-- ---- relations
+
+-- the relations of a file that is there
+relations_tell : (r : Records) (file : FileNo) → has_file r file ≡ true →
+    machine.relations r file ≡ told r (replies.Relations (relations_at (length r.files) (book.standing r.decisions) file))
+unfolding machine.relations
+relations_tell r file there = rw there refl
+
+relations_are : (n : ℕ) (ds : List Decision) (file : FileNo) → relations_at n ds file ≡ standing_of n (relations ds) file
+unfolding relations_at
+relations_are n ds file = refl
+
+pub relations_prepared : (t : TablesView) (file : FileNo) (found : FileRelations) →
+    AreInStep t → has_file (records_of t) file ≡ true → found ≡ standing_of (size_of t.groups) (relations_in t.groups) file →
+    IsPrepared (machine.relations (records_of t) file) t (prepared.Told (replies.Relations found))
+relations_prepared t file found step there is =
+    let o = relations_tell (records_of t) file there in (
+      ap (λ (o : Outcome). o.change) o,
+      ap (λ (o : Outcome). o.reply) o ∙ ap replies.Relations (relations_are _ _ file ∙ sym (is ∙ rw (step.grouped, step.related) refl)),
+      ap (λ (o : Outcome). o.records) o,
+    )
+
+-- ---- undoings
+
+undo_fits : StepsKeepFit → (r : Records) (n : DecisionNo) → Fits r → Fits (undo r n).records
+unfolding step
+undo_fits keep r n fits = keep r Console (commands.Undo n) fits
+
+-- a decision that stands is undone
+undo_takes : (r : Records) (n : DecisionNo) (row : DecisionRow) → slice_get r.decisions n.0 ≡ Some row → row.undone ≡ false →
+    undo r n ≡ changed (record r { decisions = undone_at n.0 r.decisions }) (replies.Undone n) (changes.Undo n)
+unfolding undo
+undo_takes r n row there stands = rw (there, stands) refl
+
+pub undo_prepared : (old : TablesView) (groups : Kept) (n : DecisionNo) (row : DecisionRow) (plan : Planned) →
+    StepsKeepFit → AreInStep old →
+    slice_get old.book.rows n.0 ≡ Some row → row.undone ≡ false →
+    IsPlanFor plan groups → relations_after plan groups ≡ relations (book.standing (undone_at n.0 old.book.rows)) →
+    IsPrepared (undo (records_of old) n) (record { files = old.files; book = old.book; groups = groups })
+    (prepared.Change (plans.Undo n plan) (changes.Undo n) (replies.Undone n))
+undo_prepared old groups n row plan keep step there stands planned related =
+    let r = records_of old in
+    let o = undo_takes r n row there stands in (
+      ap (λ (o : Outcome). o.change) o,
+      ap (λ (o : Outcome). o.reply) o,
+      record {
+        known = slice_get_within old.book.rows n.0 row there;
+        stands = λ other is. ap (λ (row : DecisionRow). row.undone) (same_Some _ _ (sym is ∙ there)) ∙ stands;
+        planned = planned;
+        related = related;
+        fits = undo_fits keep r n step.fits;
+        leads = ap (λ (o : Outcome). o.records) o;
+      },
+    )

@@ -1,0 +1,42 @@
+use file_records::ImportPlan;
+use media_base::{Change, Decision, DecisionNo, Refusal, Reply};
+use relation_groups::GroupPlan;
+
+/// A change of the tables that is ready to be made. Dropped, it changes nothing.
+#[derive(Drop)]
+pub enum TablesPlan {
+    Import(ImportPlan),
+    Decide {
+        decision: Decision,
+        groups: GroupPlan,
+    },
+    Undo {
+        number: DecisionNo,
+        groups: GroupPlan,
+    },
+}
+
+/// What a command comes to.
+#[derive(Drop)]
+pub enum Prepared {
+    /// It changes nothing, and this is its reply.
+    Told(Reply),
+    /// It changes the tables by the plan. The change is to be kept first, and then this is its reply.
+    Change {
+        plan: TablesPlan,
+        change: Change,
+        reply: Reply,
+    },
+}
+
+impl From<Refusal> for Prepared {
+    ghost use Rattle.std.specs.Prelude.{◌≡◌};
+    ghost use Rattle.media_base.specs.declared.reply.Reply.TheVariants as replies;
+    ghost use Rattle.library_core.specs.declared.plan.Prepared.TheVariants as prepared;
+
+    ghost from_gives = { λ why told. told ≡ prepared.Told (replies.Refused why) };
+
+    fn from(why: Refusal) -> Prepared {
+        Prepared::Told(Reply::Refused(why))
+    }
+}

@@ -1,0 +1,151 @@
+ghost use Rattle.std.specs.Prelude.{◌≡◌, ◌&&◌, IfOk};
+ghost use Rattle.media_base.specs.declared.command.Caller.TheVariants as callers;
+ghost use Rattle.library_machine.specs.Step as machine;
+ghost use Rattle.library_core.specs.Tables.{IsPrepared, records_of};
+
+use crate::numbers::all_files;
+use crate::plan::{Prepared, TablesPlan};
+use crate::tables::Tables;
+use media_base::{
+    Change, Command, Decision, DecisionNo, FileNo, ImportStatus, Imported, MAX_DECISIONS,
+    MAX_FILES, NewFile, NoMemory, Refusal, Reply, Steps,
+};
+use std::sync::ledger::Ledger;
+
+impl Tables {
+    fn has_file(&self, file: FileNo) -> bool
+        ensures { result ≡ machine.has_file (records_of self.now) file }
+    {
+        file.0 < self.files.len()
+    }
+
+    fn has_both(&self, decision: Decision) -> bool
+        ensures { let r = records_of self.now in result
+            ≡ (machine.has_file r decision.a && machine.has_file r decision.b) }
+    {
+        self.has_file(decision.a) && self.has_file(decision.b)
+    }
+
+    /// Prepares what the console's command comes to. It changes nothing that is recorded.
+    ///
+    /// An import takes a look-up. A decision, an undoing and a question of relations take time in
+    /// proportion to the files, and an undoing makes all standing decisions anew.
+    #[tactic(auto, unfolding(library_machine::specs::Step::step))]
+    pub fn plan<L: Ledger>(
+        &mut self,
+        command: &Command,
+        steps: &mut Steps<L>,
+    ) -> Result<Prepared, NoMemory>
+        ensures records { records_of self.new ≡ records_of self.old }
+        ensures prepared { let r = records_of self.old in
+            IfOk result (IsPrepared (machine.step r callers.Console command.now) self.new) }
+    {
+        match command {
+            Command::Import(file) => self.plan_import(file, steps),
+            Command::Decide(decision) => self.plan_decide(*decision, steps),
+            Command::Undo(number) => self.plan_undo(*number, steps),
+            Command::Relations(file) => self.tell_relations(*file),
+        }
+    }
+
+    #[tactic(auto, unfolding(library_machine::specs::Step::import))]
+    fn plan_import<L: Ledger>(
+        &mut self,
+        file: &NewFile,
+        steps: &mut Steps<L>,
+    ) -> Result<Prepared, NoMemory>
+        ensures records { records_of self.new ≡ records_of self.old }
+        ensures prepared { IfOk result (IsPrepared (machine.import (records_of self.old) file.now) self.new) }
+    {
+        if let Some(number) = self.files.find(&file.sha) {
+            return Ok(Prepared::Told(Reply::Imported(Imported {
+                file: number,
+                status: ImportStatus::Known,
+            })));
+        }
+        let count = self.files.len();
+        if count >= MAX_FILES {
+            return Ok(Refusal::FullFiles.into());
+        }
+        library_machine::records_stay_fit();
+        let change = Change::File(file.copied(self.alloc)?);
+        self.book.reserve(steps)?;
+        self.groups.reserve_file()?;
+        let plan = self.files.plan_import(file)?;
+        Ok(Prepared::Change {
+            plan: TablesPlan::Import(plan),
+            change,
+            reply: Reply::Imported(Imported {
+                file: FileNo(count),
+                status: ImportStatus::New,
+            }),
+        })
+    }
+
+    #[tactic(auto, unfolding(library_machine::specs::Step::decide))]
+    fn plan_decide<L: Ledger>(
+        &mut self,
+        decision: Decision,
+        steps: &mut Steps<L>,
+    ) -> Result<Prepared, NoMemory>
+        ensures records { records_of self.new ≡ records_of self.old }
+        ensures prepared { IfOk result (IsPrepared (machine.decide (records_of self.old) decision) self.new) }
+    {
+        if !self.has_both(decision) {
+            return Ok(Refusal::UnknownFile.into());
+        }
+        if decision.a == decision.b {
+            return Ok(Refusal::SameFile.into());
+        }
+        let count = self.book.len();
+        if count >= MAX_DECISIONS {
+            return Ok(Refusal::FullDecisions.into());
+        }
+        library_machine::records_stay_fit();
+        self.book.reserve(steps)?;
+        let Decision { code, a, b } = decision;
+        let groups = self.groups.plan_decide(code, a, b, steps)?;
+        Ok(Prepared::Change {
+            plan: TablesPlan::Decide { decision, groups },
+            change: Change::Decision(decision),
+            reply: Reply::Decided(DecisionNo(count)),
+        })
+    }
+
+    #[tactic(auto, unfolding(library_machine::specs::Step::undo))]
+    fn plan_undo<L: Ledger>(
+        &mut self,
+        number: DecisionNo,
+        steps: &mut Steps<L>,
+    ) -> Result<Prepared, NoMemory>
+        ensures records { records_of self.new ≡ records_of self.old }
+        ensures prepared { IfOk result (IsPrepared (machine.undo (records_of self.old) number) self.new) }
+    {
+        if number.0 >= self.book.len() {
+            return Ok(Refusal::UnknownDecision.into());
+        }
+        if self.book.row(number, steps).undone {
+            return Ok(Refusal::AlreadyUndone.into());
+        }
+        let standing = self.book.standing_without(number, self.alloc)?;
+        let files = all_files(self.alloc, self.files.len())?;
+        library_machine::records_stay_fit();
+        relation_groups::laws();
+        let groups = self.groups.plan_refold(&files, &standing, steps)?;
+        Ok(Prepared::Change {
+            plan: TablesPlan::Undo { number, groups },
+            change: Change::Undo(number),
+            reply: Reply::Undone(number),
+        })
+    }
+
+    #[tactic(auto, unfolding(library_machine::specs::Step::relations))]
+    fn tell_relations(&self, file: FileNo) -> Result<Prepared, NoMemory>
+        ensures { IfOk result (IsPrepared (machine.relations (records_of self.now) file) self.now) }
+    {
+        if !self.has_file(file) {
+            return Ok(Refusal::UnknownFile.into());
+        }
+        Ok(Prepared::Told(Reply::Relations(self.groups.standing(file)?)))
+    }
+}
