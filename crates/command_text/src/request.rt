@@ -21,7 +21,7 @@ pub const MAX_LINE: usize = 65_536;
 ///   missing or has another form; `do` too where the value is no object or no command has the name.
 /// - `BadHash`: the `sha256` of an import isn't 64 hexadecimal digits.
 ///
-/// `NoMemory` may come at any line that isn't empty.
+/// `NoMemory` may come at any line that is neither empty nor too long.
 #[tactic(auto, unfolding(crate::specs::Reading::line_command))]
 pub fn read_line(alloc: Global, bytes: &[u8]) -> Result<Command, Refusal>
     ensures { Gives result (line_command bytes.now) }
