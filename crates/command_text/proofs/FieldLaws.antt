@@ -1,27 +1,27 @@
 -- Each field has its form exactly where its reading gives a value.
-use Rattle.std.proofs.Common.{◌≡◌, ℕ, ◌<◌, ◌⊎◌, inl, inr, List, [], Option, Some, None, option_map, option_and_then, Result, Ok, Err, refl, sym, ap, ◌∙◌, arith}
+use Rattle.std.proofs.Common.{◌≡◌, ℕ, ◌<◌, ◌⊎◌, inl, inr, List, [], Option, Some, None, option_map, option_and_then, Result, Ok, Err, IsOk, refl, sym, ap, ◌∙◌, arith}
+use Rattle.std.specs.Option.{ok_or}
 use Rattle.std.specs.Result.{result_ok}
 use Rattle.std.proofs.lemmas.Bool.Decides.{nat_tests}
 use Rattle.hex.specs.declared.error.FromHexError.{FromHexError}
-use Rattle.hex.specs.Hex.{decode_sized}
+use Rattle.hex.specs.Hex.{decode_of, decode_sized}
 use Rattle.hex.proofs.HexLemmas.{IsOk-decode_sized, decode_sized-twice}
 use Rattle.serde_json.specs.Data.{Data, null, boolean, number, string, array, object, Items, no_items, item, Num, unsigned, negative, float}
 use Rattle.serde_json.specs.Find.{as_str, as_number, as_u64, as_array}
-use Rattle.media_types.specs.declared.decision.Code.{Code}
-use Rattle.media_types.specs.declared.decision.Code.TheVariants as codes_of
 use Rattle.media_types.specs.declared.hash.Hash64.{Hash64}
 use Rattle.media_types.specs.declared.hash.Sha.{Sha}
 use Rattle.media_base.specs.declared.refusal.FieldName.{FieldName}
 use Rattle.media_base.specs.declared.refusal.FieldName.TheVariants as fields
-use Rattle.command_text.specs.Reading.{formed, field_of, text_of, number_of, below, whole_number_at, sha_with, sha_of, sha_at, no_hashes_of, hashes_of, hashes_at, code_of, code_at}
-use Rattle.command_text.specs.Spelling.{HasField, HasText, HasNumber, HasDigits, HasNone}
+use Rattle.media_base.specs.declared.refusal.Refusal.TheVariants as refusals
+use Rattle.command_text.specs.Reading.{formed, field_of, text_of, number_of, below, text_at, whole_number_at, sha_with, sha_of, no_hashes_of, hashes_of, hashes_at}
+use Rattle.command_text.specs.Spelling.{HasField, HasText, HasNumber, IsHashText, HasNone}
 
 -- ---- options
 
-pub some_same : {A : Type 0} (a b : A) → Some a ≡ Some b → a ≡ b
+some_same : {A : Type 0} (a b : A) → Some a ≡ Some b → a ≡ b
 some_same a b e = cc e
 
-then_some : {A B : Type 0} (f : A → Option B) (o : Option A) (y : B) → option_and_then f o ≡ Some y → (x : A) × (o ≡ Some x) × (f x ≡ Some y)
+pub then_some : {A B : Type 0} (f : A → Option B) (o : Option A) (y : B) → option_and_then f o ≡ Some y → (x : A) × (o ≡ Some x) × (f x ≡ Some y)
 then_some f None y e = cc e
 then_some f (Some x) y e = (x, refl, e)
 
@@ -62,12 +62,20 @@ as_array-some (object ms) items e = cc e
 
 -- ---- texts and numbers
 
-pub text_of-some : (name : FieldName) (value : Data) (text : List ℕ) → text_of name value ≡ Some text → HasText value name text
+text_of-some : (name : FieldName) (value : Data) (text : List ℕ) → text_of name value ≡ Some text → HasText value name text
 text_of-some name value text e =
     let p = then_some as_str (field_of name value) text e in
     p.1 ∙ ap Some (as_str-some p.0 text p.2)
 
-number_of-some : (name : FieldName) (value : Data) (n : ℕ) → number_of name value ≡ Some n → HasField value name (number (unsigned n))
+pub text_at-ok : (name : FieldName) (value : Data) (text : List ℕ) → text_at name value ≡ Ok text → HasText value name text
+unfolding text_at
+text_at-ok name value text e = text_of-some name value text (formed_ok name (text_of name value) text e)
+
+pub text_at-has : (name : FieldName) (value : Data) (text : List ℕ) → HasText value name text → text_at name value ≡ Ok text
+unfolding text_at
+text_at-has name value text has = ap (λ (field : Option Data). formed name (option_and_then as_str field)) has
+
+pub number_of-some : (name : FieldName) (value : Data) (n : ℕ) → number_of name value ≡ Some n → HasField value name (number (unsigned n))
 number_of-some name value n e =
     let p = then_some as_u64 (option_and_then as_number (field_of name value)) n e in
     let q = then_some as_number (field_of name value) p.0 p.1 in
@@ -97,32 +105,42 @@ whole_number_at-has name limit value n has =
 
 -- ---- the SHA-256
 
-sha_from-some : (bytes : Result (List ℕ) FromHexError) (sha : Sha)
-    → option_map sha_with (result_ok bytes) ≡ Some sha → bytes ≡ Ok sha.0
-sha_from-some (Ok bytes) sha e = ap (λ (found : Sha). Ok found.0) (some_same (sha_with bytes) sha e)
-sha_from-some (Err error) sha e = cc e
+sha_from-ok : (bytes : Result (List ℕ) FromHexError) (sha : Sha)
+    → ok_or (option_map sha_with (result_ok bytes)) refusals.BadHash ≡ Ok sha → bytes ≡ Ok sha.0
+sha_from-ok (Ok bytes) sha e =
+    let same : sha_with bytes ≡ sha = cc e in
+    ap (λ (found : Sha). Ok found.0) same
+sha_from-ok (Err error) sha e = cc e
 
-pub sha_at-ok : (value : Data) (sha : Sha) → sha_at value ≡ Ok sha → HasDigits value fields.Sha256 sha.0
-unfolding sha_at
-sha_at-ok value sha e =
-    let p = then_some sha_of (text_of fields.Sha256 value) sha (formed_ok fields.Sha256 (option_and_then sha_of (text_of fields.Sha256 value)) sha e) in
-    let sized = sha_from-some (decode_sized p.0 32) sha p.2 in
-    let digits = (IsOk-decode_sized p.0 32).0 (rw sized refl) in
-    record {
-      digits = p.0;
-      is = text_of-some fields.Sha256 value p.0 p.1;
-      sixty_four = digits.0;
-      hexadecimal = digits.1;
-      spell = sym (decode_sized-twice p.0 32 digits.0) ∙ sized;
-    }
+-- what spells a SHA-256 is 64 digits that spell its bytes
+pub sha_of-ok : (text : List ℕ) (sha : Sha) → sha_of text ≡ Ok sha → IsHashText text × (decode_of text ≡ Ok sha.0)
+unfolding sha_of
+sha_of-ok text sha e =
+    let sized = sha_from-ok (decode_sized text 32) sha e in
+    let digits = (IsOk-decode_sized text 32).0 (rw sized refl) in
+    (record { sixty_four = digits.0; hexadecimal = digits.1 }, sym (decode_sized-twice text 32 digits.0) ∙ sized)
 
-pub sha_at-has : (value : Data) (sha : Sha) → HasDigits value fields.Sha256 sha.0 → sha_at value ≡ Ok sha
-unfolding sha_at
-sha_at-has value sha has =
-    ap (λ (field : Option Data). formed fields.Sha256 (option_and_then sha_of (option_and_then as_str field))) has.is
-    ∙ ap (λ (bytes : Result (List ℕ) FromHexError). formed fields.Sha256 (option_map sha_with (result_ok bytes))) (decode_sized-twice has.digits 32 has.sixty_four ∙ has.spell)
+pub sha_of-spells : (text : List ℕ) (sha : Sha) → IsHashText text → decode_of text ≡ Ok sha.0 → sha_of text ≡ Ok sha
+unfolding sha_of
+sha_of-spells text sha digits spell =
+    ap (λ (bytes : Result (List ℕ) FromHexError). ok_or (option_map sha_with (result_ok bytes)) refusals.BadHash) (decode_sized-twice text 32 digits.sixty_four ∙ spell)
 
--- ---- hashes and codes
+sha_from-either : (bytes : Result (List ℕ) FromHexError)
+    → ((IsOk bytes → ⊥) × (ok_or (option_map sha_with (result_ok bytes)) refusals.BadHash ≡ Err refusals.BadHash))
+    ⊎ ((sha : Sha) × (ok_or (option_map sha_with (result_ok bytes)) refusals.BadHash ≡ Ok sha))
+sha_from-either (Ok bytes) = inr (sha_with bytes, refl)
+sha_from-either (Err error) = inl (λ ok. cc ok, refl)
+
+-- a text spells a SHA-256, or it isn't 64 digits and is refused for that
+pub sha_of-either : (text : List ℕ) → (¬ (IsHashText text) × (sha_of text ≡ Err refusals.BadHash)) ⊎ ((sha : Sha) × (sha_of text ≡ Ok sha))
+unfolding sha_of
+sha_of-either text =
+    elim (sha_from-either (decode_sized text 32)) [
+      | inl bad ↦ inl (λ digits. bad.0 ((IsOk-decode_sized text 32).1 (digits.sixty_four, digits.hexadecimal)), bad.1)
+      | inr good ↦ inr good
+    ]
+
+-- ---- hashes
 
 no_hashes_of-some : (items : Items) (hashes : List Hash64) → no_hashes_of items ≡ Some hashes → (items ≡ no_items) × (hashes ≡ [])
 no_hashes_of-some no_items hashes e = (refl, cc e)
@@ -145,18 +163,3 @@ pub hashes_at-has : (value : Data) → HasNone value fields.Hashes → hashes_at
 unfolding hashes_at
 hashes_at-has value (inl none) = ap (λ (field : Option Data). formed fields.Hashes (hashes_of field)) none
 hashes_at-has value (inr empty) = ap (λ (field : Option Data). formed fields.Hashes (hashes_of field)) empty
-
-code_of-some : (n : ℕ) (code : Code) → code_of n ≡ Some code → (n ≡ 4) × (code ≡ codes_of.Better)
-code_of-some n code e = grind (arith, nat_tests)
-
-pub code_at-ok : (value : Data) (code : Code) → code_at value ≡ Ok code → HasField value fields.Code (number (unsigned 4)) × (code ≡ codes_of.Better)
-unfolding code_at
-code_at-ok value code e =
-    let p = then_some code_of (number_of fields.Code value) code (formed_ok fields.Code (option_and_then code_of (number_of fields.Code value)) code e) in
-    let q = code_of-some p.0 code p.2 in
-    (number_of-some fields.Code value p.0 p.1 ∙ ap (λ (n : ℕ). Some (number (unsigned n))) q.0, q.1)
-
-pub code_at-has : (value : Data) → HasField value fields.Code (number (unsigned 4)) → code_at value ≡ Ok codes_of.Better
-unfolding code_at
-code_at-has value is =
-    ap (λ (field : Option Data). formed fields.Code (option_and_then code_of (option_and_then as_u64 (option_and_then as_number field)))) is

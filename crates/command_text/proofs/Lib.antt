@@ -1,7 +1,9 @@
 mod CommandLaws
+mod DecisionLaws
 mod FieldLaws
 mod FirstFile
 mod Hashes
 mod Lines
 mod Putting
 mod RefusalLaws
+mod ValueLaws

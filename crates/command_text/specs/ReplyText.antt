@@ -17,6 +17,9 @@ imported_text found = codes "{\"file\":" ++ (decimal found.file.0 ++ (codes ",\"
 unfoldable pub decided_text : DecisionNo → List ℕ
 decided_text decision = codes "{\"decision\":" ++ (decimal decision.0 ++ codes "}")
 
+unfoldable pub undone_text : DecisionNo → List ℕ
+undone_text decision = codes "{\"undone\":" ++ (decimal decision.0 ++ codes "}")
+
 -- ---- relations
 
 -- a file behind another one
@@ -59,11 +62,16 @@ abbrev pub refusal_name : Refusal → List ℕ
 refusal_name refusals.LineTooLong = codes "line_too_long"
 refusal_name refusals.NotJson = codes "not_json"
 refusal_name (refusals.NotARequest field) = codes "not_a_request"
+refusal_name refusals.BadHash = codes "bad_hash"
 refusal_name refusals.UnknownFile = codes "unknown_file"
 refusal_name refusals.SameFile = codes "same_file"
+refusal_name refusals.UnknownDecision = codes "unknown_decision"
+refusal_name refusals.AlreadyUndone = codes "already_undone"
 refusal_name refusals.FullFiles = codes "full_files"
 refusal_name refusals.FullDecisions = codes "full_decisions"
 refusal_name refusals.NoMemory = codes "no_memory"
+refusal_name refusals.JournalFull = codes "journal_full"
+refusal_name refusals.NotKept = codes "not_kept"
 
 -- the field that made it no request
 abbrev pub blamed_text : Refusal → List ℕ
@@ -78,6 +86,7 @@ refused_text refusal = codes "{\"error\":\"" ++ (refusal_name refusal ++ (blamed
 unfoldable pub reply_text : Reply → List ℕ
 reply_text (replies.Imported found) = imported_text found
 reply_text (replies.Decided decision) = decided_text decision
+reply_text (replies.Undone decision) = undone_text decision
 reply_text (replies.Relations relations) = relations_text relations
 reply_text (replies.Refused refusal) = refused_text refusal
 

@@ -3,31 +3,40 @@
 ghost use Rattle.std.specs.Prelude.{◌≡◌, ◌↔◌, ◌<◌, ℕ, List, Ok, Err, length};
 ghost use Rattle.media_types.specs.declared.decision.Decision.{Decision};
 ghost use Rattle.media_types.specs.declared.new_file.NewFile.{NewFile};
+ghost use Rattle.media_types.specs.declared.numbers.DecisionNo.{DecisionNo};
 ghost use Rattle.media_types.specs.declared.numbers.FileNo.{FileNo};
 ghost use Rattle.media_base.specs.declared.command.Command.TheVariants as commands;
 ghost use Rattle.media_base.specs.declared.refusal.FieldName.{FieldName};
+ghost use Rattle.media_base.specs.declared.refusal.Refusal.{Refusal};
 ghost use Rattle.media_base.specs.declared.refusal.Refusal.TheVariants as refusals;
-ghost use Rattle.command_text.specs.Reading.{line_command, text_command};
+ghost use Rattle.command_text.specs.Reading.{line_command};
 ghost use Rattle.command_text.specs.declared.request.TheConstants.{MAX_LINE};
-ghost use Rattle.command_text.specs.Spelling.{HasNoReading, SpellsImport, SpellsDecide, SpellsRelations, SpellsFault};
+ghost use Rattle.command_text.specs.Spelling.{IsNoJson, IsOfReading, SpellsBadHash, SpellsDecide, SpellsFault, SpellsImport, SpellsRelations, SpellsUndo};
 
 /// A line is read as a command exactly where it spells the command.
 pub fn spelling_laws()
     ensures import { (line : List ℕ) (file : NewFile)
-        → (text_command line ≡ Ok (commands.Import file)) ↔ SpellsImport line file }
+        → (line_command line ≡ Ok (commands.Import file)) ↔ SpellsImport line file }
     ensures decide { (line : List ℕ) (decision : Decision)
-        → (text_command line ≡ Ok (commands.Decide decision)) ↔ SpellsDecide line decision }
+        → (line_command line ≡ Ok (commands.Decide decision)) ↔ SpellsDecide line decision }
+    ensures undo { (line : List ℕ) (decision : DecisionNo)
+        → (line_command line ≡ Ok (commands.Undo decision)) ↔ SpellsUndo line decision }
     ensures relations { (line : List ℕ) (file : FileNo)
-        → (text_command line ≡ Ok (commands.Relations file)) ↔ SpellsRelations line file }
+        → (line_command line ≡ Ok (commands.Relations file)) ↔ SpellsRelations line file }
 {}
 
-/// A line is refused as no JSON exactly where it has no reading, and by a field exactly where that is
-/// the first, in the command's order, that hasn't its form.
+/// A line that isn't too long is refused as no JSON exactly where it has no reading, by a field exactly
+/// where that is the first, in the command's order, that hasn't its form, and for its SHA-256 exactly
+/// where an import has nothing else amiss. Reading gives no other refusal.
 pub fn refusal_laws()
     ensures not_json { (line : List ℕ)
-        → (text_command line ≡ Err refusals.NotJson) ↔ HasNoReading line }
+        → (line_command line ≡ Err refusals.NotJson) ↔ IsNoJson line }
     ensures not_a_request { (line : List ℕ) (field : FieldName)
-        → (text_command line ≡ Err (refusals.NotARequest field)) ↔ SpellsFault line field }
+        → (line_command line ≡ Err (refusals.NotARequest field)) ↔ SpellsFault line field }
+    ensures bad_hash { (line : List ℕ)
+        → (line_command line ≡ Err refusals.BadHash) ↔ SpellsBadHash line }
+    ensures no_other { (line : List ℕ) (why : Refusal)
+        → line_command line ≡ Err why → IsOfReading why }
 {}
 
 /// A line is refused as too long exactly where it has more bytes than a line may have.

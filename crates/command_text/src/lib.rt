@@ -4,6 +4,7 @@
 //! fields are ignored. Replies take no memory.
 #![tactic(auto)]
 
+mod asked_code;
 mod laws;
 mod named_list;
 mod pieces;

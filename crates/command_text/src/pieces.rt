@@ -3,7 +3,7 @@
 ghost use Rattle.std.specs.Prelude.{◌≡◌, ◌++◌, ◌+◌, ◌-◌, ◌^◌, min, length, decimal};
 ghost use Rattle.std.specs.List.{flat_map};
 ghost use Rattle.media_base.specs.Names.{import_number};
-ghost use Rattle.command_text.specs.ReplyText.{imported_text, decided_text, king_text, label_text, next_text, refusal_name, blamed_text, refused_text};
+ghost use Rattle.command_text.specs.ReplyText.{imported_text, decided_text, undone_text, king_text, label_text, next_text, refusal_name, blamed_text, refused_text};
 
 use itoa::Buffer;
 use media_base::{DecisionNo, FileNo, ImportStatus, Imported, Refusal};
@@ -41,6 +41,13 @@ pub fn decided_pieces(decision: DecisionNo, digits: &mut Buffer) -> [&[u8]; 3]
         digits.format(decision.0).as_bytes(),
         b"}",
     ]
+}
+
+#[tactic(auto, unfolding(crate::specs::ReplyText::undone_text))]
+pub fn undone_pieces(decision: DecisionNo, digits: &mut Buffer) -> [&[u8]; 3]
+    ensures { flat_map (λ piece. piece.now) result ≡ undone_text decision }
+{
+    [b"{\"undone\":", digits.format(decision.0).as_bytes(), b"}"]
 }
 
 #[tactic(auto, unfolding(crate::specs::ReplyText::king_text))]
@@ -86,11 +93,16 @@ fn name_of(refusal: Refusal) -> &'static str
         Refusal::LineTooLong => "line_too_long",
         Refusal::NotJson => "not_json",
         Refusal::NotARequest(_) => "not_a_request",
+        Refusal::BadHash => "bad_hash",
         Refusal::UnknownFile => "unknown_file",
         Refusal::SameFile => "same_file",
+        Refusal::UnknownDecision => "unknown_decision",
+        Refusal::AlreadyUndone => "already_undone",
         Refusal::FullFiles => "full_files",
         Refusal::FullDecisions => "full_decisions",
         Refusal::NoMemory => "no_memory",
+        Refusal::JournalFull => "journal_full",
+        Refusal::NotKept => "not_kept",
     }
 }
 

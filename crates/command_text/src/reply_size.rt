@@ -5,7 +5,7 @@ ghost use Rattle.command_text.specs.ReplyText.{following_text, files_text, list_
 use crate::named_list::{NamedList, named_lists};
 use crate::pieces::{
     decided_pieces, following_pieces, imported_pieces, king_pieces, label_pieces, pieces_len,
-    refused_pieces,
+    refused_pieces, undone_pieces,
 };
 use itoa::Buffer;
 use media_base::{FileNo, FileRelations, Reply};
@@ -19,6 +19,7 @@ pub fn reply_len(reply: &Reply) -> u64
     match reply {
         Reply::Imported(found) => pieces_len(&imported_pieces(found, &mut digits)),
         Reply::Decided(decision) => pieces_len(&decided_pieces(*decision, &mut digits)),
+        Reply::Undone(decision) => pieces_len(&undone_pieces(*decision, &mut digits)),
         Reply::Relations(relations) => relations_len(relations),
         Reply::Refused(refusal) => pieces_len(&refused_pieces(*refusal)),
     }

@@ -1,20 +1,27 @@
 ghost use Rattle.std.specs.Prelude.{◌≡◌, ◌^◌, option_map};
 ghost use Rattle.serde_json.specs.View.{view};
-ghost use Rattle.command_text.specs.Reading.{Gives, text_of, number_of, whole_number_at, sha_at, hashes_at, code_at, import_at, decide_at, relations_at, named_command, value_command, text_command, line_command};
+ghost use Rattle.command_text.specs.Reading.{Gives, text_of, number_of, whole_number_at, sha_of, hashes_at, code_at, import_at, decide_at, undo_at, relations_at, named_command, value_command, text_command, line_command};
 
+use crate::asked_code::AskedCode;
 use hex::FromHex;
-use media_base::{Code, Command, Decision, FieldName, FileNo, HashList, NewFile, Refusal, Sha};
+use media_base::{Command, DecisionNo, FieldName, FileHashes, FileNo, NewFile, Refusal, Sha};
 use serde_json::Value;
 use std::alloc::Global;
 
 /// The most bytes of a request line, its line feed not counted.
 pub const MAX_LINE: usize = 65_536;
 
-/// Reads a request line, its line feed not among the bytes. It is refused as `NotJson` where it has no
-/// reading as a JSON value: it isn't UTF-8, no JSON, or nests deeper than 127 levels. It is refused as
-/// `NotARequest` by the first field, in the order `do` and then the command's own, that is missing or
-/// has another form; by `do` too where the value is no object or no command has the name. `NoMemory`
-/// may come at any line that isn't empty.
+/// Reads a request line, its line feed not among the bytes. The first test that it fails names the
+/// refusal:
+///
+/// - `LineTooLong`: it has more than `MAX_LINE` bytes.
+/// - `NotJson`: it has no reading as a JSON value. It isn't UTF-8, no JSON, or nests deeper than 127
+///   levels.
+/// - `NotARequest`: the field is the first, in the order `do` and then the command's own, that is
+///   missing or has another form; `do` too where the value is no object or no command has the name.
+/// - `BadHash`: the `sha256` of an import isn't 64 hexadecimal digits.
+///
+/// `NoMemory` may come at any line that is neither empty nor too long.
 #[tactic(auto, unfolding(crate::specs::Reading::line_command))]
 pub fn read_line(alloc: Global, bytes: &[u8]) -> Result<Command, Refusal>
     ensures { Gives result (line_command bytes.now) }
@@ -35,27 +42,31 @@ fn read_text(alloc: Global, bytes: &[u8]) -> Result<Command, Refusal>
     }
 }
 
-#[tactic(auto, unfolding(crate::specs::Reading::value_command, crate::specs::Reading::named_command))]
+#[tactic(auto, unfolding(crate::specs::Reading::value_command, crate::specs::Reading::named_command, crate::specs::Reading::text_at))]
 fn command_of(alloc: Global, request: &Value) -> Result<Command, Refusal>
     ensures { Gives result (value_command (view request.now)) }
 {
     match text(request, FieldName::Do) {
         Some("import") => import_of(alloc, request),
         Some("decide") => decide_of(request),
+        Some("undo") => undo_of(request),
         Some("relations") => relations_of(request),
         _ => Err(Refusal::NotARequest(FieldName::Do)),
     }
 }
 
-#[tactic(auto, unfolding(crate::specs::Reading::import_at))]
+#[tactic(auto, unfolding(crate::specs::Reading::import_at, crate::specs::Reading::text_at))]
 fn import_of(alloc: Global, request: &Value) -> Result<Command, Refusal>
     ensures { Gives result (import_at (view request.now)) }
 {
-    let sha = sha_of(request)?;
+    let Some(digits) = text(request, FieldName::Sha256) else {
+        return Err(Refusal::NotARequest(FieldName::Sha256));
+    };
     let hashes = hashes_of(alloc, request)?;
     let size = large_number(request, FieldName::Size)?;
     let width = small_number(request, FieldName::Width)?;
     let height = small_number(request, FieldName::Height)?;
+    let sha = sha_of(digits)?;
     Ok(Command::Import(NewFile {
         sha,
         hashes,
@@ -72,11 +83,15 @@ fn decide_of(request: &Value) -> Result<Command, Refusal>
     let code = code_of(request)?;
     let a = small_number(request, FieldName::A)?;
     let b = small_number(request, FieldName::B)?;
-    Ok(Command::Decide(Decision {
-        code,
-        a: FileNo(a),
-        b: FileNo(b),
-    }))
+    Ok(Command::Decide(code.decision(FileNo(a), FileNo(b))))
+}
+
+#[tactic(auto, unfolding(crate::specs::Reading::undo_at))]
+fn undo_of(request: &Value) -> Result<Command, Refusal>
+    ensures { Gives result (undo_at (view request.now)) }
+{
+    let decision = small_number(request, FieldName::Decision)?;
+    Ok(Command::Undo(DecisionNo(decision)))
 }
 
 #[tactic(auto, unfolding(crate::specs::Reading::relations_at))]
@@ -87,27 +102,23 @@ fn relations_of(request: &Value) -> Result<Command, Refusal>
     Ok(Command::Relations(FileNo(file)))
 }
 
-#[tactic(auto, unfolding(crate::specs::Reading::sha_at))]
-fn sha_of(request: &Value) -> Result<Sha, Refusal>
-    ensures { Gives result (sha_at (view request.now)) }
+#[tactic(auto, unfolding(crate::specs::Reading::sha_of))]
+fn sha_of(digits: &str) -> Result<Sha, Refusal>
+    ensures { result ≡ sha_of digits.now }
 {
-    let refused = Err(Refusal::NotARequest(FieldName::Sha256));
-    let Some(digits) = text(request, FieldName::Sha256) else {
-        return refused;
-    };
     match <[u8; 32] as FromHex>::from_hex(digits) {
         Ok(bytes) => Ok(Sha(bytes)),
-        Err(_) => refused,
+        Err(_) => Err(Refusal::BadHash),
     }
 }
 
 #[tactic(auto, unfolding(crate::specs::Reading::hashes_at))]
-fn hashes_of(alloc: Global, request: &Value) -> Result<HashList, Refusal>
+fn hashes_of(alloc: Global, request: &Value) -> Result<FileHashes, Refusal>
     ensures { Gives result (hashes_at (view request.now)) }
 {
     let refused = Err(Refusal::NotARequest(FieldName::Hashes));
     let Some(field) = request.get(FieldName::Hashes.text()) else {
-        return Ok(HashList::new(alloc));
+        return Ok(FileHashes::none(alloc));
     };
     let Some(items) = field.as_array() else {
         return refused;
@@ -115,17 +126,16 @@ fn hashes_of(alloc: Global, request: &Value) -> Result<HashList, Refusal>
     if !items.is_empty() {
         return refused;
     }
-    Ok(HashList::new(alloc))
+    Ok(FileHashes::none(alloc))
 }
 
 #[tactic(auto, unfolding(crate::specs::Reading::code_at))]
-fn code_of(request: &Value) -> Result<Code, Refusal>
+fn code_of(request: &Value) -> Result<AskedCode, Refusal>
     ensures { Gives result (code_at (view request.now)) }
 {
-    match number(request, FieldName::Code) {
-        Some(4) => Ok(Code::Better),
-        _ => Err(Refusal::NotARequest(FieldName::Code)),
-    }
+    number(request, FieldName::Code)
+        .and_then(AskedCode::of_number)
+        .ok_or(Refusal::NotARequest(FieldName::Code))
 }
 
 #[tactic(auto, unfolding(crate::specs::Reading::whole_number_at))]

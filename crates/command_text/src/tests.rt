@@ -1,7 +1,7 @@
 use super::*;
 use media_base::{
-    BytesSink, CallList, Code, Command, DecisionNo, FieldName, FileList, FileNo, FileRelations,
-    ImportStatus, Imported, Refusal, Reply,
+    BytesSink, CallList, Code, Command, Decision, DecisionNo, FieldName, FileList, FileNo,
+    FileRelations, ImportStatus, Imported, Refusal, Reply,
 };
 use std::alloc::Global;
 use std::process::Abort;
@@ -57,6 +57,7 @@ fn faulty_lines_are_refused(rt: HostRuntime) {
             "{\"do\":\"relations\",\"file\":1,\"file\":null}",
             Refusal::NotARequest(FieldName::File),
         ),
+        ("{\"do\":\"undone\",\"decision\":1}", no_request),
     ];
     for (line, want) in cases {
         assert_refused(&rt, rt.alloc(), line.as_bytes(), want);
@@ -66,10 +67,10 @@ fn faulty_lines_are_refused(rt: HostRuntime) {
 
 #[test]
 fn faulty_imports_are_refused(rt: HostRuntime) -> Result<(), Fail> {
-    let digits = "00112233445566778899aabbccddeeff00112233445566778899aabbccddeef";
     let cases = [
         ("\"sha256\":5", FieldName::Sha256),
         ("\"sha256\":null", FieldName::Sha256),
+        ("\"sha256\":[]", FieldName::Sha256),
         ("\"hashes\":null", FieldName::Hashes),
         ("\"hashes\":{}", FieldName::Hashes),
         ("\"hashes\":[1]", FieldName::Hashes),
@@ -83,19 +84,32 @@ fn faulty_imports_are_refused(rt: HostRuntime) -> Result<(), Fail> {
         ("\"height\":4294967296", FieldName::Height),
         ("\"height\":-1,\"width\":-1,\"size\":-1", FieldName::Size),
         ("\"hashes\":1,\"sha256\":1", FieldName::Sha256),
+        ("\"sha256\":\"00\",\"hashes\":1", FieldName::Hashes),
+        ("\"sha256\":\"00\",\"width\":-1", FieldName::Width),
+        ("\"sha256\":\"00\",\"height\":null", FieldName::Height),
     ];
     for (fields, want) in cases {
         let line = format!(in rt.alloc(); "{IMPORT},{fields}}}")?;
         assert_refused(&rt, rt.alloc(), line.as_bytes(), Refusal::NotARequest(want));
     }
-    for end in ["", "g", "ff"] {
+    Ok(())
+}
+
+// 63 digits, and what may stand behind them.
+#[test]
+fn other_than_sixty_four_digits_are_a_bad_hash(rt: HostRuntime) -> Result<(), Fail> {
+    let digits = "00112233445566778899aabbccddeeff00112233445566778899aabbccddeef";
+    for end in ["", "g", "G", " ", "ff", "fff", "\u{e9}"] {
         let line = format!(in rt.alloc(); "{IMPORT},\"sha256\":\"{digits}{end}\"}}")?;
-        assert_refused(
-            &rt,
-            rt.alloc(),
-            line.as_bytes(),
-            Refusal::NotARequest(FieldName::Sha256),
-        );
+        assert_refused(&rt, rt.alloc(), line.as_bytes(), Refusal::BadHash);
+    }
+    for text in ["", "0", "00", "0x00"] {
+        let line = format!(in rt.alloc(); "{IMPORT},\"sha256\":\"{text}\"}}")?;
+        assert_refused(&rt, rt.alloc(), line.as_bytes(), Refusal::BadHash);
+    }
+    for end in ["0", "9", "a", "f", "A", "F"] {
+        let line = format!(in rt.alloc(); "{IMPORT},\"sha256\":\"{digits}{end}\"}}")?;
+        assert!(rt; read_line(rt.alloc(), line.as_bytes()).is_ok());
     }
     Ok(())
 }
@@ -103,17 +117,71 @@ fn faulty_imports_are_refused(rt: HostRuntime) -> Result<(), Fail> {
 #[test]
 fn faulty_decisions_are_refused(rt: HostRuntime) -> Result<(), Fail> {
     let cases = [
-        ("\"code\":3", FieldName::Code),
-        ("\"code\":7", FieldName::Code),
+        ("\"code\":0", FieldName::Code),
+        ("\"code\":5", FieldName::Code),
+        ("\"code\":6", FieldName::Code),
+        ("\"code\":8", FieldName::Code),
+        ("\"code\":-1", FieldName::Code),
+        ("\"code\":4294967300", FieldName::Code),
         ("\"code\":\"4\"", FieldName::Code),
         ("\"code\":4.0", FieldName::Code),
+        ("\"code\":[4]", FieldName::Code),
         ("\"a\":null", FieldName::A),
         ("\"b\":4294967296", FieldName::B),
+        ("\"b\":1.0,\"a\":-1,\"code\":9", FieldName::Code),
+        ("\"b\":1.0,\"a\":-1,\"code\":7", FieldName::A),
     ];
     for (fields, want) in cases {
         let line = format!(in rt.alloc(); "{DECIDE},{fields}}}")?;
         assert_refused(&rt, rt.alloc(), line.as_bytes(), Refusal::NotARequest(want));
     }
+    Ok(())
+}
+
+#[test]
+fn faulty_undos_are_refused(rt: HostRuntime) -> Result<(), Fail> {
+    let numbers = [
+        "-1",
+        "-0",
+        "1.0",
+        "1e0",
+        "4294967296",
+        "\"1\"",
+        "null",
+        "[1]",
+    ];
+    let want = Refusal::NotARequest(FieldName::Decision);
+    for number in numbers {
+        let line = format!(in rt.alloc(); "{{\"do\":\"undo\",\"decision\":{number}}}")?;
+        assert_refused(&rt, rt.alloc(), line.as_bytes(), want);
+    }
+    assert_refused(&rt, rt.alloc(), b"{\"do\":\"undo\"}", want);
+    assert_refused(&rt, rt.alloc(), b"{\"do\":\"undo\",\"file\":1}", want);
+    Ok(())
+}
+
+fn padded(alloc: Global, text: &str, len: usize) -> Result<String, Fail> {
+    let mut line = String::new(alloc);
+    line.push_str(text)?;
+    for _ in text.len()..len {
+        line.push(' ')?;
+    }
+    Ok(line)
+}
+
+// 65,536 bytes are read, whatever they are, and 65,537 aren't.
+#[test]
+fn long_lines_are_refused_first(rt: HostRuntime) -> Result<(), Fail> {
+    let alloc = rt.alloc();
+    let decide = format!(in alloc; "{DECIDE}}}")?;
+    let longest = padded(alloc, "", 65_536)?;
+    assert_refused(&rt, alloc, longest.as_bytes(), Refusal::NotJson);
+    let too_long = padded(alloc, "", 65_537)?;
+    assert_refused(&rt, alloc, too_long.as_bytes(), Refusal::LineTooLong);
+    let read = padded(alloc, decide.as_str(), 65_536)?;
+    assert!(rt; read_line(alloc, read.as_bytes()).is_ok());
+    let unread = padded(alloc, decide.as_str(), 65_537)?;
+    assert_refused(&rt, alloc, unread.as_bytes(), Refusal::LineTooLong);
     Ok(())
 }
 
@@ -158,7 +226,7 @@ fn imports_are_read(rt: HostRuntime) -> Result<(), Fail> {
             Command::Import(file) => {
                 assert_eq!(rt; file.sha.0[1], 0x11);
                 assert_eq!(rt; file.sha.0[16], 0xff);
-                assert!(rt; file.hashes.is_empty());
+                assert!(rt; file.hashes.as_slice().is_empty());
                 assert_eq!(rt; file.size, size);
                 assert_eq!(rt; file.width, width);
                 assert_eq!(rt; file.height, height);
@@ -169,20 +237,39 @@ fn imports_are_read(rt: HostRuntime) -> Result<(), Fail> {
     Ok(())
 }
 
+// Worse 1 2 is better 2 1.
 #[test]
-fn decisions_and_questions_are_read(rt: HostRuntime) -> Result<(), Fail> {
-    let line = format!(in rt.alloc(); " {DECIDE} , \"hashes\":7}} ")?;
-    match read_line(rt.alloc(), line.as_bytes())? {
-        Command::Decide(decision) => {
-            assert_eq!(rt; decision.code, Code::Better);
-            assert_eq!(rt; decision.a, FileNo(1));
-            assert_eq!(rt; decision.b, FileNo(2));
+fn decisions_are_read(rt: HostRuntime) -> Result<(), Fail> {
+    let cases = [
+        (1u8, Code::NotRelated, FileNo(1), FileNo(2)),
+        (2, Code::Same, FileNo(1), FileNo(2)),
+        (3, Code::Alternates, FileNo(1), FileNo(2)),
+        (4, Code::Better, FileNo(1), FileNo(2)),
+        (7, Code::Better, FileNo(2), FileNo(1)),
+    ];
+    for (number, code, a, b) in cases {
+        let line = format!(in rt.alloc(); " {DECIDE} , \"hashes\":7, \"code\":{number}}} ")?;
+        match read_line(rt.alloc(), line.as_bytes())? {
+            Command::Decide(decision) => assert_eq!(rt; decision, Decision { code, a, b }),
+            _ => panic!(rt; "no decision: {line}"),
         }
-        _ => panic!(rt; "no decision"),
     }
-    match read_line(rt.alloc(), b"{\"file\":4294967295,\"do\":\"relations\"}")? {
-        Command::Relations(file) => assert_eq!(rt; file, FileNo(u32::MAX)),
-        _ => panic!(rt; "no question"),
+    Ok(())
+}
+
+#[test]
+fn undos_and_questions_are_read(rt: HostRuntime) -> Result<(), Fail> {
+    for number in [0, 7, u32::MAX] {
+        let undo = format!(in rt.alloc(); "{{\"decision\":{number},\"do\":\"undo\"}}")?;
+        match read_line(rt.alloc(), undo.as_bytes())? {
+            Command::Undo(decision) => assert_eq!(rt; decision, DecisionNo(number)),
+            _ => panic!(rt; "no undo: {undo}"),
+        }
+        let asked = format!(in rt.alloc(); "{{\"file\":{number},\"do\":\"relations\"}}")?;
+        match read_line(rt.alloc(), asked.as_bytes())? {
+            Command::Relations(file) => assert_eq!(rt; file, FileNo(number)),
+            _ => panic!(rt; "no question: {asked}"),
+        }
     }
     Ok(())
 }
@@ -206,7 +293,7 @@ fn assert_text(rt: &impl Abort, alloc: Global, reply: &Reply, want: &str) -> Res
 }
 
 #[test]
-fn imports_and_decisions_are_answered(rt: HostRuntime) -> Result<(), Fail> {
+fn changes_are_answered(rt: HostRuntime) -> Result<(), Fail> {
     let new = Reply::Imported(Imported {
         file: FileNo(0),
         status: ImportStatus::New,
@@ -216,9 +303,13 @@ fn imports_and_decisions_are_answered(rt: HostRuntime) -> Result<(), Fail> {
         status: ImportStatus::Known,
     });
     let decided = Reply::Decided(DecisionNo(10));
+    let undone = Reply::Undone(DecisionNo(0));
+    let last_undone = Reply::Undone(DecisionNo(4_294_967_295));
     assert_text(&rt, rt.alloc(), &new, "{\"file\":0,\"status\":1}")?;
     assert_text(&rt, rt.alloc(), &known, "{\"file\":999999,\"status\":2}")?;
-    assert_text(&rt, rt.alloc(), &decided, "{\"decision\":10}")
+    assert_text(&rt, rt.alloc(), &decided, "{\"decision\":10}")?;
+    assert_text(&rt, rt.alloc(), &undone, "{\"undone\":0}")?;
+    assert_text(&rt, rt.alloc(), &last_undone, "{\"undone\":4294967295}")
 }
 
 fn files(alloc: Global, numbers: &[FileNo]) -> Result<FileList, Fail> {
@@ -250,6 +341,7 @@ fn relations_are_answered(rt: HostRuntime) -> Result<(), Fail> {
 #[test]
 fn refusals_are_written(rt: HostRuntime) -> Result<(), Fail> {
     let cases = [
+        (Refusal::LineTooLong, "{\"error\":\"line_too_long\"}"),
         (Refusal::NotJson, "{\"error\":\"not_json\"}"),
         (
             Refusal::NotARequest(FieldName::Do),
@@ -259,11 +351,20 @@ fn refusals_are_written(rt: HostRuntime) -> Result<(), Fail> {
             Refusal::NotARequest(FieldName::Sha256),
             "{\"error\":\"not_a_request\",\"field\":\"sha256\"}",
         ),
+        (
+            Refusal::NotARequest(FieldName::Decision),
+            "{\"error\":\"not_a_request\",\"field\":\"decision\"}",
+        ),
+        (Refusal::BadHash, "{\"error\":\"bad_hash\"}"),
         (Refusal::UnknownFile, "{\"error\":\"unknown_file\"}"),
         (Refusal::SameFile, "{\"error\":\"same_file\"}"),
+        (Refusal::UnknownDecision, "{\"error\":\"unknown_decision\"}"),
+        (Refusal::AlreadyUndone, "{\"error\":\"already_undone\"}"),
         (Refusal::FullFiles, "{\"error\":\"full_files\"}"),
         (Refusal::FullDecisions, "{\"error\":\"full_decisions\"}"),
         (Refusal::NoMemory, "{\"error\":\"no_memory\"}"),
+        (Refusal::JournalFull, "{\"error\":\"journal_full\"}"),
+        (Refusal::NotKept, "{\"error\":\"not_kept\"}"),
     ];
     for (refusal, want) in cases {
         assert_text(&rt, rt.alloc(), &Reply::Refused(refusal), want)?;

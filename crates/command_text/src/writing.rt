@@ -7,6 +7,7 @@ ghost use Rattle.command_text.specs.ReplyText.{following_text, files_text, close
 use crate::named_list::{NamedList, named_lists};
 use crate::pieces::{
     decided_pieces, following_pieces, imported_pieces, king_pieces, label_pieces, refused_pieces,
+    undone_pieces,
 };
 use itoa::Buffer;
 use media_base::{Failed, FileNo, FileRelations, Gather, Reply, Sink};
@@ -57,6 +58,7 @@ fn put_reply<W: Sink>(reply: &Reply, gather: &mut Gather, sink: &mut W) -> Resul
     match reply {
         Reply::Imported(found) => gather.put_all(&imported_pieces(found, &mut digits), sink),
         Reply::Decided(decision) => gather.put_all(&decided_pieces(*decision, &mut digits), sink),
+        Reply::Undone(decision) => gather.put_all(&undone_pieces(*decision, &mut digits), sink),
         Reply::Relations(relations) => put_relations(relations, gather, sink),
         Reply::Refused(refusal) => gather.put_all(&refused_pieces(*refusal), sink),
     }
