@@ -57,7 +57,7 @@ pub trait Keeper {
     /// A start was Ok, and what holds the changes is as it should be.
     ghost ready: { Self → Type 0 };
 
-    /// How many changes it has given since the last start, and how many it told there.
+    /// How many changes it has given since the last start, and how many it told there, if there was one.
     ghost place: { Self → Option (ℕ × ℕ) };
 
     /// How many units of its room are used.
@@ -87,21 +87,22 @@ pub trait Keeper {
 
         ensures ready { OnOk result (ready self.new) }
         ensures place { IfOk result (λ told. place self.new ≡ Some (0, told)) }
-        ensures told { (readings : Readings) → gives self.old ≡ Some readings → IfOk result (λ told. told ≡ length readings) }
+        ensures told { (readings : Readings) → gives self.old ≡ Some readings
+            → IfOk result (λ told. told ≡ length readings) }
         ensures settled { OnOk result (attempted self.new ≡ None) }
 
         // A keeper that is alien never starts, and one that tells that it isn't never says `Alien`.
         ensures own { OnOk result (alien self.old ≢ Some true) }
         ensures alien_only { IsErrOf result StartFault.Alien → alien self.old ≢ Some false }
 
-        // Whatever it answers. The units used are known only from the start on.
+        // Whatever it answers. The units used aren't among these: a keeper may learn them only here.
         ensures same_alien { alien self.new ≡ alien self.old }
         ensures same_gives { gives self.new ≡ gives self.old }
         ensures same_kept { kept self.new ≡ kept self.old }
         ensures same_units { units self.new ≡ units self.old }
         ensures same_limit { limit self.new ≡ limit self.old }
-        ensures time { Elapses (moment self.old) (moment self.new) (left_since self.old) (left_since self.new)
-            (may_leave self.old) };
+        ensures time { Elapses (moment self.old) (moment self.new)
+            (left_since self.old) (left_since self.new) (may_leave self.old) };
 
     /// Gives the next change.
     fn next(&mut self) -> Result<Change, NextFault>
@@ -110,9 +111,11 @@ pub trait Keeper {
 
         ensures cause { HasCause (faults self.old) (faults self.new) NextFault.Failed result }
 
-        ensures given { (readings : Readings) (given told : ℕ) → gives self.old ≡ Some readings → place self.old ≡ Some (given, told)
+        ensures given { (readings : Readings) (given told : ℕ)
+            → gives self.old ≡ Some readings → place self.old ≡ Some (given, told)
             → IfOk result (λ change. slice_get readings given ≡ Some (Some change)) }
-        ensures unreadable { (readings : Readings) (given told : ℕ) → gives self.old ≡ Some readings → place self.old ≡ Some (given, told)
+        ensures unreadable { (readings : Readings) (given told : ℕ)
+            → gives self.old ≡ Some readings → place self.old ≡ Some (given, told)
             → IsErrOf result NextFault.Unreadable → slice_get readings given ≡ Some None }
         ensures further { OnOk result (place self.new ≡ option_map next_place (place self.old)) }
 
@@ -125,8 +128,8 @@ pub trait Keeper {
         ensures same_units { units self.new ≡ units self.old }
         ensures same_limit { limit self.new ≡ limit self.old }
         ensures same_attempted { attempted self.new ≡ attempted self.old }
-        ensures time { Elapses (moment self.old) (moment self.new) (left_since self.old) (left_since self.new)
-            (may_leave self.old) };
+        ensures time { Elapses (moment self.old) (moment self.new)
+            (left_since self.old) (left_since self.new) (may_leave self.old) };
 
     /// Keeps one more change, behind all others.
     fn put(&mut self, change: &Change) -> Result<(), PutFault>
@@ -135,19 +138,22 @@ pub trait Keeper {
 
         ensures cause { HasCause (faults self.old) (faults self.new) PutFault.Failed result }
 
-        ensures ok { OnOk result (kept self.new ≡ option_map (with_change change.now) (kept self.old)) }
+        ensures ok { OnOk result
+            (kept self.new ≡ option_map (with_change change.now) (kept self.old)) }
         ensures err { OnErr result (kept self.new ≡ kept self.old) }
 
         // `Full` comes exactly where there is no room for this change.
-        ensures full { IsErrOf result PutFault.Full → limit self.old < used self.old + units self.old change.now }
+        ensures full { IsErrOf result PutFault.Full
+            → limit self.old < used self.old + units self.old change.now }
         ensures room { OnOk result (used self.old + units self.old change.now ≤ limit self.old) }
-        ensures room_failed { IsErrOf result PutFault.Failed → used self.old + units self.old change.now ≤ limit self.old }
+        ensures room_failed { IsErrOf result PutFault.Failed
+            → used self.old + units self.old change.now ≤ limit self.old }
         ensures used_ok { OnOk result (used self.new ≡ used self.old + units self.old change.now) }
         ensures used_err { OnErr result (used self.new ≡ used self.old) }
 
         ensures attempt_ok { OnOk result (attempted self.new ≡ None) }
-        ensures attempt_err { OnErr result ((attempted self.new ≡ attempted self.old) ⊎ (attempted self.new ≡ None)
-            ⊎ (attempted self.new ≡ Some change.now)) }
+        ensures attempt_err { OnErr result ((attempted self.new ≡ attempted self.old)
+            ⊎ (attempted self.new ≡ None) ⊎ (attempted self.new ≡ Some change.now)) }
 
         // Whatever it answers.
         ensures still_ready { ready self.new }
@@ -156,23 +162,29 @@ pub trait Keeper {
         ensures tells_gives { is_some (gives self.new) ≡ is_some (gives self.old) }
         ensures same_units { units self.new ≡ units self.old }
         ensures same_limit { limit self.new ≡ limit self.old }
-        ensures time { Elapses (moment self.old) (moment self.new) (left_since self.old) (left_since self.new)
+        ensures time { Elapses (moment self.old) (moment self.new)
+            (left_since self.old) (left_since self.new)
             (DuringPut (kept self.old) (attempted self.old) change.now) };
 
     /// What it keeps is what it gives.
-    ghost kept_is_given: { (keeper : Self) (readings : Readings) → kept keeper ≡ Some readings → gives keeper ≡ Some readings };
+    ghost kept_is_given: { (keeper : Self) (readings : Readings)
+        → kept keeper ≡ Some readings → gives keeper ≡ Some readings };
 
     /// A keeper that tells what it keeps tells whether it is alien.
-    ghost kept_tells_alien: { (keeper : Self) (readings : Readings) → kept keeper ≡ Some readings → IsSome (alien keeper) };
+    ghost kept_tells_alien: { (keeper : Self) (readings : Readings)
+        → kept keeper ≡ Some readings → IsSome (alien keeper) };
 
     /// This moment is one of those since an earlier one.
-    ghost counts_now: { (keeper : Self) (since : ℕ) (left : Readings) → since ≤ moment keeper → may_leave keeper left → left_since keeper since left };
+    ghost counts_now: { (keeper : Self) (since : ℕ) (left : Readings)
+        → since ≤ moment keeper → may_leave keeper left → left_since keeper since left };
 
     /// Since this moment there is no other.
-    ghost only_now: { (keeper : Self) (left : Readings) → left_since keeper (moment keeper) left → may_leave keeper left };
+    ghost only_now: { (keeper : Self) (left : Readings)
+        → left_since keeper (moment keeper) left → may_leave keeper left };
 
     /// Once it has started, a stop leaves what is kept, or that and the attempted change.
-    ghost at_rest: { (keeper : Self) (left : Readings) → ready keeper → may_leave keeper left → AtRest (kept keeper) (attempted keeper) left };
+    ghost at_rest: { (keeper : Self) (left : Readings)
+        → ready keeper → may_leave keeper left → AtRest (kept keeper) (attempted keeper) left };
 }
 
 impl From<NoMemory> for StartFault {

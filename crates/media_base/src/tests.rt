@@ -107,3 +107,39 @@ fn names(rt: HostRuntime) {
     }
     assert_eq!(rt; Refusal::from(NoMemory), Refusal::NoMemory);
 }
+
+#[test]
+fn a_change_is_copied(rt: HostRuntime) -> Result<(), Fail> {
+    let alloc = rt.alloc();
+    let file = NewFile {
+        sha: Sha([7; 32]),
+        hashes: FileHashes::none(alloc),
+        size: 4,
+        width: 5,
+        height: 6,
+    };
+    let decision = Decision {
+        code: Code::Better,
+        a: FileNo(1),
+        b: FileNo(2),
+    };
+    for change in [
+        Change::File(file),
+        Change::Decision(decision),
+        Change::Undo(DecisionNo(3)),
+    ] {
+        let copy = change.copied(alloc)?;
+        assert_eq!(rt;
+            format!(in alloc; "{copy:?}")?,
+            format!(in alloc; "{change:?}")?
+        );
+    }
+    Ok(())
+}
+
+#[test]
+fn want_of_memory_has_its_names(rt: HostRuntime) {
+    assert_eq!(rt; StartFault::from(NoMemory), StartFault::NoMemory);
+    assert_eq!(rt; NextFault::from(NoMemory), NextFault::NoMemory);
+    assert_eq!(rt; PutFault::from(NoMemory), PutFault::NoMemory);
+}

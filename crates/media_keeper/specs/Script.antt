@@ -1,5 +1,5 @@
 -- The keeper in memory: what it keeps, and which of its calls fail.
-use Rattle.std.specs.Prelude.{ℕ, ◌+◌, Bool, true, IsTrue, List, [], ◌∷◌, ◌++◌, length, map, Option, Some, if◌then◌else◌, Result, Ok, Err}
+use Rattle.std.specs.Prelude.{ℕ, ◌+◌, Bool, true, List, [], ◌∷◌, ◌++◌, length, map, Some, if◌then◌else◌, Result, Ok, Err}
 use Rattle.media_base.specs.declared.change.Change.{Change}
 use Rattle.media_base.specs.declared.keeper.StartFault.{StartFault}
 use Rattle.media_base.specs.declared.keeper.StartFault.TheVariants as starts

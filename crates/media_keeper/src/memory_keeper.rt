@@ -76,13 +76,19 @@ impl MemoryKeeper {
         &self.kept
     }
 
+    fn count_call(&mut self)
+        ensures { self.new ≡ after_call self.old }
+    {
+        self.calls = self.calls.saturating_add(1);
+    }
+
     // Counts a call, and a fault where it is one that fails.
     fn is_failing_now(&mut self) -> bool
         ensures value { result ≡ is_failing self.old }
         ensures later { self.old.faults ≤ self.new.faults }
         ensures after { self.new ≡ (if result then after_fault self.old else after_call self.old) }
     {
-        self.calls = self.calls.saturating_add(1);
+        self.count_call();
         let fails = self.fails.as_slice().contains(&self.calls);
         if fails {
             self.faults = self.faults.saturating_add(1);
@@ -159,11 +165,12 @@ impl Keeper for MemoryKeeper {
         requires all { self.old.given ≡ self.old.told }
         ensures cause { HasCause self.old.faults self.new.faults PutFault.Failed result }
         ensures full { (result ≡ Err PutFault.Full) ↔ (self.old.limit ≤ length self.old.kept) }
-        ensures failed { (result ≡ Err PutFault.Failed) ↔ (IsTrue (is_failing self.old) × (length self.old.kept < self.old.limit)) }
+        ensures failed { (result ≡ Err PutFault.Failed)
+            ↔ (IsTrue (is_failing self.old) × (length self.old.kept < self.old.limit)) }
         ensures after { self.new ≡ after_put self.old change.now result }
     {
         if self.kept.len() as u64 >= self.limit {
-            self.calls = self.calls.saturating_add(1);
+            self.count_call();
             return Err(PutFault::Full);
         }
         if self.is_failing_now() {

@@ -4,18 +4,12 @@ use media_base::{Change, Keeper, NextFault, PutFault, StartFault};
 
 /// A keeper that never fails and always has room. It gives no change, tells that it gives none, and doesn't
 /// tell what was put into it: it is for records that end with the program.
-#[derive(Clone, Copy, Debug, PartialEq, Eq, Hash)]
+#[derive(Debug, Default, Drop)]
 pub struct QuietKeeper;
 
 impl QuietKeeper {
     pub fn new() -> QuietKeeper {
         QuietKeeper
-    }
-}
-
-impl Default for QuietKeeper {
-    fn default() -> QuietKeeper {
-        QuietKeeper::new()
     }
 }
 
