@@ -1,7 +1,7 @@
 -- What is prepared for a command is its outcome.
-use Rattle.std.proofs.Common.{◌≡◌, ◌≢◌, ◌<◌, ◌≤◌, ℕ, Bool, true, false, not, cond, nat_lt, ◌==◌, ◌&&◌, Option, Some, None, List, [], ◌∷◌, ◌++◌, length, map, slice_get, refl, arith, ap, subst, sym, ◌∙◌}
+use Rattle.std.proofs.Common.{◌≡◌, ◌≤◌, ℕ, Bool, true, false, not, cond, nat_lt, ◌==◌, ◌&&◌, Some, None, List, [], ◌∷◌, ◌++◌, length, map, slice_get, refl, ap, sym, ◌∙◌}
 use Rattle.std.specs.List.{filter}
-use Rattle.std.proofs.lemmas.Bool.{ltb-true, eqb-false, and_parts, lt-ltb}
+use Rattle.std.proofs.lemmas.Bool.{ltb-true, eqb-false, and_parts}
 use Rattle.std.proofs.lemmas.Option.{same_Some, slice_get_within}
 use Rattle.media_types.specs.declared.decision.Decision.{Decision}
 use Rattle.media_types.specs.declared.file_relations.FileRelations.{FileRelations}
@@ -28,7 +28,7 @@ use Rattle.library_machine.specs.Laws.{StepsKeepFit}
 use Rattle.library_machine.specs.Records.{Records, Fits}
 use Rattle.library_machine.specs.Step as machine
 use Rattle.library_machine.specs.Step.{Outcome, told, changed, has_file, import, decide, undo, step}
-use Rattle.library_core.specs.Tables.{TablesView, AreInStep, IsPrepared, LeadsImport, LeadsDecide, LeadsUndo, records_of}
+use Rattle.library_core.specs.Tables.{TablesView, AreInStep, IsPrepared, records_of}
 use Rattle.library_core.specs.declared.plan.Prepared.TheVariants as prepared
 use Rattle.library_core.specs.declared.plan.TablesPlan.TheVariants as plans
 

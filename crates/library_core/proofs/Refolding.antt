@@ -1,5 +1,5 @@
 -- An undoing makes the decisions of all files anew.
-use Rattle.std.proofs.Common.{◌≡◌, ◌<◌, ◌≤◌, ◌+◌, ℕ, zero, suc, Bool, true, false, not, cond, ◌==◌, ◌||◌, List, [], ◌∷◌, ◌++◌, length, map, All, refl, arith, ap, subst, sym, ◌∙◌}
+use Rattle.std.proofs.Common.{◌≡◌, ◌<◌, ◌≤◌, ◌+◌, ℕ, zero, suc, Bool, true, false, not, cond, ◌==◌, ◌||◌, List, [], ◌∷◌, length, map, All, refl, arith, ap, sym, ◌∙◌}
 use Rattle.std.specs.List.{filter, range_with_len, AllByRecursion}
 use Rattle.std.proofs.lemmas.Bool.{eqb-false}
 use Rattle.std.proofs.lemmas.List.Elements.{All-from_recursion, recursion_from_All}
@@ -10,7 +10,7 @@ use Rattle.decision_book.specs.Recorded.{undone_at}
 use Rattle.decision_book.specs.Standing.{decision_of, standing}
 use Rattle.relation_groups.specs.Clusters.{IsClosed, IsSplitBy, IsWithin, is_one_of, outside, patched, touching}
 use Rattle.relation_groups.specs.Laws.{ClosedSetsSplit, OthersStay}
-use Rattle.relation_groups.specs.Relations.{AreAmong, Relations, files, relations}
+use Rattle.relation_groups.specs.Relations.{AreAmong, files, relations}
 
 -- ---- the decisions that stand
 

@@ -2,7 +2,7 @@ ghost use Rattle.std.specs.Prelude.{◌≡◌, ◌<◌};
 
 use super::*;
 use media_base::{
-    Caller, Code, Command, Decision, DecisionNo, FileList, FileNo, HashList, ImportStatus,
+    Caller, Code, Command, Decision, DecisionNo, FileHashes, FileList, FileNo, ImportStatus,
     Imported, NewFile, Refusal, Reply, Sha, Steps,
 };
 use std::alloc::Global;
@@ -16,7 +16,7 @@ use std::thread::Threads;
 fn import_of(alloc: Global, byte: u8) -> Command {
     Command::Import(NewFile {
         sha: Sha([byte; 32]),
-        hashes: HashList::new(alloc),
+        hashes: FileHashes::none(alloc),
         size: 7,
         width: 3,
         height: 2,
@@ -73,6 +73,13 @@ fn assert_group(rt: &impl Abort, reply: &Reply, king: u32, members: &[FileNo]) {
     }
 }
 
+fn assert_undone(rt: &impl Abort, reply: &Reply, number: u32) {
+    match reply {
+        Reply::Undone(found) => assert_eq!(rt; *found, DecisionNo(number)),
+        _ => panic!(rt; "no undoing was answered"),
+    }
+}
+
 fn play<L: Ledger>(rt: &(impl Threads + Abort), alloc: Global, blank: Blank)
     requires name { blank.name ≡ L.name }
     requires parts { blank.parts ≡ L.parts }
@@ -96,6 +103,18 @@ fn play<L: Ledger>(rt: &(impl Threads + Abort), alloc: Global, blank: Blank)
         &ask(Command::Relations(FileNo(1))),
         0,
         &[FileNo(0), FileNo(1)],
+    );
+    assert_undone(rt, &ask(Command::Undo(DecisionNo(0))), 0);
+    assert_group(rt, &ask(Command::Relations(FileNo(1))), 1, &[FileNo(1)]);
+    assert_refused(
+        rt,
+        &ask(Command::Undo(DecisionNo(0))),
+        Refusal::AlreadyUndone,
+    );
+    assert_refused(
+        rt,
+        &ask(Command::Undo(DecisionNo(1))),
+        Refusal::UnknownDecision,
     );
     assert_refused(rt, &ask(better_than(1, 1)), Refusal::SameFile);
     assert_refused(rt, &ask(better_than(2, 2)), Refusal::UnknownFile);

@@ -1,7 +1,18 @@
 -- The line that a session keeps.
-use Rattle.std.proofs.Common.{◌≡◌, ℕ, Bool, true, false, eqb, List, [], length, sym, ◌∙◌, ap}
-use Rattle.std.proofs.lemmas.Bool.{eqb-true, eqb-false}
-use Rattle.std.proofs.lemmas.List.{nil_from_length}
+use Rattle.std.proofs.Common.{◌≡◌, ◌↔◌, ℕ, suc, zero, ◌+◌, ◌-◌, ◌<◌, ◌≤◌, min, Bool, true, false, eqb, List, [], ◌∷◌, ◌++◌, length, take, Err, Option, Result, inl, inr, refl, sym, ◌∙◌, ap, subst, arith}
+use Rattle.std.proofs.lemmas.Bool.{eqb-true, eqb-false, cases_lt}
+use Rattle.std.proofs.lemmas.List.{nil_from_length, length-take, take_all}
+use Rattle.media_base.specs.declared.refusal.Refusal.TheVariants as refusals
+use Rattle.media_base.specs.declared.reply.Reply.{Reply}
+use Rattle.library_machine.specs.Records.{Records}
+use Rattle.command_text.specs.Reading.{line_command}
+use Rattle.command_text.specs.declared.request.TheConstants.{MAX_LINE}
+use Rattle.media_tool.specs.Feeding.{Fed, FedKept, LineSent, Stopped}
+use Rattle.media_tool.specs.Kept.{kept_of, Keeps}
+use Rattle.media_tool.specs.Lines.{HasNoFeed}
+use Rattle.media_tool.specs.Run.{LineAnswered, as_command, as_refused, as_no_memory}
+use Rattle.media_tool.proofs.Cuts.{AllByRecursion-append}
+use Rattle.media_tool.proofs.Feeds.{FedSoFar, fed_kept, so_far_none, so_far_more, so_far_all, so_far_stopped}
 
 -- a test that says whether the line is empty
 pub nil_from_test : (line : List ℕ) (len : ℕ) (test : Bool) → len ≡ length line → test ≡ eqb len 0 → test ≡ true → line ≡ []
@@ -9,3 +20,130 @@ nil_from_test line len test same is yes' = nil_from_length line (sym same ∙ eq
 
 pub some_from_test : (line : List ℕ) (len : ℕ) (test : Bool) → len ≡ length line → test ≡ eqb len 0 → test ≡ false → line ≡ [] → ⊥
 some_from_test line len test same is no' nil = eqb-false len 0 (sym is ∙ no') (same ∙ ap length nil)
+
+-- ---- fronts
+
+-- a front of a front and more bytes is the front of all
+take_again : (n : ℕ) (line more : List ℕ) → take n (take n line ++ more) ≡ take n (line ++ more)
+take_again zero line more = refl
+take_again (suc n) [] more = refl
+take_again (suc n) (byte ∷ line) more = ap (λ (bytes : List ℕ). byte ∷ bytes) (take_again n line more)
+
+-- the front of a list, where only so many bytes were there to take
+take_count : (n count : ℕ) (bytes : List ℕ) → count ≡ min n (length bytes) → take n bytes ≡ take count bytes
+take_count n count bytes is = elim (cases_lt (length bytes) n) [
+  | inl more ↦ take_all n bytes (omega (arith, more)) ∙ sym (take_all count bytes (omega (arith, more, is)))
+  | inr fits ↦ let same : n ≡ count = omega (arith, fits, is) in ap (λ (m : ℕ). take m bytes) same
+]
+
+-- what was there, and as many of the bytes as there is room for
+take_room : (n count : ℕ) (old bytes : List ℕ) → length old ≤ n → count ≡ min (n - length old) (length bytes) → take n (old ++ bytes) ≡ old ++ take count bytes
+take_room n count [] bytes fits is = take_count n count bytes (omega (arith, is))
+take_room zero count (byte ∷ old) bytes fits is = absurd (omega (arith, fits))
+take_room (suc n) count (byte ∷ old) bytes fits is = ap (λ (rest : List ℕ). byte ∷ rest) (take_room n count old bytes (omega (arith, fits)) (omega (arith, is)))
+
+-- ---- what is kept
+
+kept_fits : (line : List ℕ) → length (kept_of line) ≤ MAX_LINE + 1
+unfolding kept_of
+kept_fits line = omega (arith, length-take (MAX_LINE + 1) line)
+
+kept_whole : (line : List ℕ) → length line ≤ MAX_LINE + 1 → kept_of line ≡ line
+unfolding kept_of
+kept_whole line fits = take_all (MAX_LINE + 1) line fits
+
+kept_long : (line : List ℕ) → MAX_LINE + 1 < length line → MAX_LINE < length (kept_of line)
+unfolding kept_of
+kept_long line long = omega (arith, length-take (MAX_LINE + 1) line, long)
+
+kept_more : (line more : List ℕ) → kept_of (kept_of line ++ more) ≡ kept_of (line ++ more)
+unfolding kept_of
+kept_more line more = take_again (MAX_LINE + 1) line more
+
+kept_nil : kept_of [] ≡ []
+kept_nil = kept_whole [] (omega arith)
+
+nil_kept : (line : List ℕ) → kept_of line ≡ [] → line ≡ []
+unfolding kept_of
+nil_kept line e = nil_from_length line (omega (arith, length-take (MAX_LINE + 1) line, ap length e))
+
+-- a session's room for bytes
+pub kept_room : (old bytes : List ℕ) (count : ℕ) → length old ≤ MAX_LINE + 1 → count ≡ min (MAX_LINE + 1 - length old) (length bytes) → kept_of (old ++ bytes) ≡ old ++ take count bytes
+unfolding kept_of
+kept_room old bytes count fits is = take_room (MAX_LINE + 1) count old bytes fits is
+
+pub keeps_fits : (kept line : List ℕ) → Keeps kept line → length kept ≤ MAX_LINE + 1
+keeps_fits kept line keeps = subst (λ (bytes : List ℕ). length bytes ≤ MAX_LINE + 1) (sym keeps.front) (kept_fits line)
+
+-- nothing is kept of an empty line, and of no other
+pub keeps_nothing : (kept : List ℕ) → kept ≡ [] → Keeps kept []
+keeps_nothing kept nil = record { front = nil ∙ sym kept_nil; unfinished = tt }
+
+pub nil_of_keeps : (kept line : List ℕ) → kept ≡ [] → kept ≡ kept_of line → line ≡ []
+nil_of_keeps kept line nil front = nil_kept line (sym front ∙ nil)
+
+pub keeps_of_nil : (kept line : List ℕ) → kept ≡ kept_of line → line ≡ [] → kept ≡ []
+keeps_of_nil kept line front nil = front ∙ ap kept_of nil ∙ kept_nil
+
+-- more bytes came, and what there was room for was kept of them
+pub keeps_more : (kept now line more : List ℕ) → Keeps kept line → HasNoFeed more → now ≡ kept_of (kept ++ more) → Keeps now (line ++ more)
+keeps_more kept now line more keeps no_feed is = record {
+  front = is ∙ ap (λ (bytes : List ℕ). kept_of (bytes ++ more)) keeps.front ∙ kept_more line more;
+  unfinished = AllByRecursion-append (λ byte. byte ≡ 10 → ⊥) line more keeps.unfinished no_feed;
+}
+
+-- ---- a kept line is answered as the whole line
+
+-- a line is refused as too long exactly where it is
+abbrev pub RefusesLong : Type 0
+RefusesLong = (line : List ℕ) → (line_command line ≡ Err refusals.LineTooLong) ↔ (MAX_LINE < length line)
+
+same_reading : RefusesLong → (line : List ℕ) → line_command (kept_of line) ≡ line_command line
+same_reading law line = elim (cases_lt (MAX_LINE + 1) (length line)) [
+  | inl long ↦ (law (kept_of line)).1 (kept_long line long) ∙ sym ((law line).1 (omega (arith, long)))
+  | inr fits ↦ ap line_command (kept_whole line fits)
+]
+
+same_answer : (r m : Records) (a b : List ℕ) (reply : Reply) → line_command a ≡ line_command b → LineAnswered r a reply m → LineAnswered r b reply m
+same_answer r m a b reply same (as_command command spelled answered) = as_command command (sym same ∙ spelled) answered
+same_answer r m a b reply same (as_refused why read is unchanged) = as_refused why (sym same ∙ read) is unchanged
+same_answer r m a b reply same (as_no_memory is unchanged) = as_no_memory is unchanged
+
+pub kept_sent : {T E : Type 0} → RefusesLong → (r m : Records) (kept line : List ℕ) (t u : Option (List ℕ)) (result : Result T E) → LineSent r kept m t u result → kept ≡ kept_of line → LineSent r line m t u result
+kept_sent law r m kept line t u result sent front = record {
+  reply = sent.reply;
+  answered = same_answer r m kept line sent.reply (ap line_command front ∙ same_reading law line) sent.answered;
+  sends = sent.sends;
+}
+
+-- ---- within a piece
+
+-- A front of the piece was fed, this is the rest of it, and these bytes are kept of the line in between.
+pub record KeptSoFar (r : Records) (line piece : List ℕ) (m : Records) (kept rest : List ℕ) (t u : Option (List ℕ)) : Type 0 where
+  pub mid : List ℕ
+  pub keeps : Keeps kept mid
+  pub so_far : FedSoFar r line piece m mid rest t u
+
+pub kept_so_far_none : (r : Records) (kept line piece : List ℕ) (t : Option (List ℕ)) → Keeps kept line → KeptSoFar r line piece r kept piece t t
+kept_so_far_none r kept line piece t keeps = record { mid = line; keeps = keeps; so_far = so_far_none r line piece t keeps.unfinished }
+
+-- the line was finished and answered
+pub kept_so_far_more : (r m s : Records) (line piece kept front rest after last : List ℕ) (t u v : Option (List ℕ)) → KeptSoFar r line piece m kept rest t u → rest ≡ front ++ after → last ≡ []
+    → ((mid : List ℕ) → Keeps kept mid → Fed m mid front s [] u v) → KeptSoFar r line piece s last after t v
+kept_so_far_more r m s line piece kept front rest after last t u v p is none q = record {
+  mid = [];
+  keeps = keeps_nothing last none;
+  so_far = so_far_more r m s line piece p.mid front rest after [] t u v p.so_far is (q p.mid p.keeps);
+}
+
+-- the rest has no line feed, and was kept
+pub kept_so_far_all : (r m s : Records) (line piece kept rest last : List ℕ) (t u : Option (List ℕ)) → KeptSoFar r line piece m kept rest t u → HasNoFeed rest → s ≡ m → last ≡ kept_of (kept ++ rest)
+    → FedKept r line piece s last t u
+kept_so_far_all r m s line piece kept rest last t u p no_feed same is = record {
+  rest = p.mid ++ rest;
+  keeps = keeps_more kept last p.mid rest p.keeps no_feed is;
+  fed = so_far_all r m s line piece p.mid rest (p.mid ++ rest) t u u p.so_far (fed_kept m s p.mid rest (p.mid ++ rest) u p.keeps.unfinished no_feed same refl);
+}
+
+pub kept_so_far_stopped : (r m : Records) (line piece kept rest : List ℕ) (t u v : Option (List ℕ)) → KeptSoFar r line piece m kept rest t u → ((mid : List ℕ) → Keeps kept mid → Stopped m mid rest u v) → Stopped r line piece t v
+kept_so_far_stopped r m line piece kept rest t u v p q = so_far_stopped r m line piece p.mid rest t u v p.so_far (q p.mid p.keeps)

@@ -4,6 +4,7 @@ use Rattle.media_base.specs.Transfer.{Took, TookFront, Sends}
 use Rattle.media_base.specs.declared.reply.Reply.{Reply}
 use Rattle.library_machine.specs.Records.{Records}
 use Rattle.command_text.specs.ReplyText.{reply_line}
+use Rattle.media_tool.specs.Kept.{Keeps}
 use Rattle.media_tool.specs.Lines.{Cut, with_rest}
 use Rattle.media_tool.specs.Run.{LineAnswered, Run, text_of}
 
@@ -14,6 +15,12 @@ pub record Fed (r : Records) (line piece : List ℕ) (after : Records) (rest : L
   pub cut : Cut (line ++ piece) lines rest
   pub run : Run r lines replies after
   pub took : Took old new (text_of replies)
+
+-- The same, and these bytes are kept of the rest.
+pub record FedKept (r : Records) (line piece : List ℕ) (after : Records) (kept : List ℕ) (old new : Option (List ℕ)) : Type 0 where
+  pub rest : List ℕ
+  pub keeps : Keeps kept rest
+  pub fed : Fed r line piece after rest old new
 
 -- It stopped at some place of the piece: the sink took a front of what all its lines may be answered.
 pub record Stopped (r : Records) (line piece : List ℕ) (old new : Option (List ℕ)) : Type 0 where

@@ -1,4 +1,5 @@
 pub mod Feeding
+pub mod Kept
 pub mod Lines
 pub mod Run
 pub mod Session

@@ -47,6 +47,9 @@ Played statuses.ReadFault given old new = AnswersEnded given old new
 Played statuses.WriteFault given old new = AnswersFront given old new
 Played statuses.NoMemory given old new = AnswersFront given old new
 Played statuses.InputTooLong given old new = AnswersWithin given old new
+Played statuses.StoreFault given old new = ⊥
+Played (statuses.BadStore n) given old new = ⊥
+Played statuses.AlienStore given old new = ⊥
 
 -- A session: the source gave some bytes, the status says whether they passed the limit, and the sink took what
 -- the status promises for them.

@@ -1,17 +1,22 @@
-ghost use Rattle.std.specs.Prelude.{◌≡◌, ◌≤◌, ◌⊎◌, ℕ, List, [], ◌++◌, Option, OnOk, OnErr, IfErr};
+ghost use Rattle.std.specs.Prelude.{◌≡◌, ◌+◌, ◌≤◌, ◌⊎◌, ℕ, List, [], ◌++◌, length, Option, OnOk, OnErr, IfErr};
 ghost use Rattle.media_types.specs.Cause.{HasCause, Rose, failed};
-ghost use Rattle.media_tool.specs.Feeding.{Fed, LineSent, Stopped};
+ghost use Rattle.command_text.specs.declared.request.TheConstants.{MAX_LINE};
+ghost use Rattle.media_tool.specs.Feeding.{Fed, FedKept, LineSent, Stopped};
+ghost use Rattle.media_tool.specs.Kept.{Keeps, kept_of};
 ghost use Rattle.media_tool.specs.Lines.{HasNoFeed, with_feed};
 ghost use Rattle.library_machine.specs.Records.{no_records};
 ghost use Rattle.media_tool.specs.Run.{LineAnswered};
 ghost use Rattle.media_tool.specs.Session.{Played};
 
 use crate::lines::split_line;
-use command_text::{read_line, write_reply_line};
+use command_text::{MAX_LINE, long_line_laws, read_line, write_reply_line};
 use library_core::Library;
 use media_base::{Caller, Failed, Reply, Sink, Status, Steps};
 use std::alloc::Global;
 use std::sync::ledger::Ledger;
+
+// How many bytes a session keeps of a line: one more than a line may have.
+const MAX_KEPT: usize = MAX_LINE + 1;
 
 /// Why a session stopped within its input.
 #[derive(Clone, Copy, Debug, PartialEq, Eq)]
@@ -24,7 +29,7 @@ pub enum Stop {
 #[derive(Drop)]
 pub struct Session {
     pub library: Library,
-    /// The line that no line feed ended yet.
+    /// The line that no line feed ended yet, or the front of it where it is too long.
     pub line: Vec<u8>,
 }
 
@@ -77,12 +82,15 @@ impl Session {
         sink: &mut W,
         steps: &mut Steps<L>,
     ) -> Result<(), Stop>
-        requires { HasNoFeed self.old.line.items }
+        requires { length self.old.line.items ≤ MAX_LINE + 1 }
+        ensures fits { length self.new.line.items ≤ MAX_LINE + 1 }
         ensures cause { HasCause (W.faults sink.old) (W.faults sink.new) Stop.WriteFault result }
-        ensures fed { OnOk result (Fed self.old.library self.old.line.items piece.now
-            self.new.library self.new.line.items (W.taken sink.old) (W.taken sink.new)) }
-        ensures stopped { OnErr result (Stopped self.old.library self.old.line.items piece.now
+        // Whatever line it keeps these bytes of.
+        ensures fed { OnOk result ((line : List ℕ) → Keeps self.old.line.items line
+            → FedKept self.old.library line piece.now self.new.library self.new.line.items
             (W.taken sink.old) (W.taken sink.new)) }
+        ensures stopped { OnErr result ((line : List ℕ) → Keeps self.old.line.items line
+            → Stopped self.old.library line piece.now (W.taken sink.old) (W.taken sink.new)) }
     {
         let mut rest = piece;
         while let Some((line, after)) = split_line(rest) {
@@ -108,7 +116,7 @@ impl Session {
         ensures write { result ≡ Status.WriteFault → Rose (W.faults sink.old) (W.faults sink.new) }
         ensures either { (result ≡ Status.Done) ⊎ (result ≡ Status.WriteFault) }
         ensures ends { (given : List ℕ) (taken : Option (List ℕ))
-            → Fed no_records [] given self.old.library self.old.line.items taken (W.taken sink.old)
+            → FedKept no_records [] given self.old.library self.old.line.items taken (W.taken sink.old)
             → Played result given taken (W.taken sink.new) }
     {
         if self.line.is_empty() {
@@ -120,13 +128,17 @@ impl Session {
         }
     }
 
-    // Keeps bytes without a line feed.
-    fn keep(&mut self, rest: &[u8]) -> Result<(), Stop>
+    // Keeps bytes without a line feed, as far as there is room for them.
+    fn keep(&mut self, bytes: &[u8]) -> Result<(), Stop>
+        requires { length self.old.line.items ≤ MAX_LINE + 1 }
         ensures library { self.new.library ≡ self.old.library }
-        ensures kept { OnOk result (self.new.line.items ≡ self.old.line.items ++ rest.now) }
+        ensures kept { OnOk result (self.new.line.items ≡ kept_of (self.old.line.items ++ bytes.now)) }
+        ensures fits { length self.new.line.items ≤ MAX_LINE + 1 }
         ensures err { IfErr result (λ stop. stop ≡ Stop.NoMemory) }
     {
-        match self.line.extend_from_slice(rest) {
+        let room = MAX_KEPT - self.line.len();
+        let front = &bytes[..room.min(bytes.len())];
+        match self.line.extend_from_slice(front) {
             Ok(()) => Ok(()),
             Err(_) => Err(Stop::NoMemory),
         }
@@ -140,12 +152,16 @@ impl Session {
         sink: &mut W,
         steps: &mut Steps<L>,
     ) -> Result<(), Stop>
-        requires { HasNoFeed (self.old.line.items ++ front.now) }
+        requires no_feed { HasNoFeed front.now }
+        requires fits { length self.old.line.items ≤ MAX_LINE + 1 }
+        ensures fits { length self.new.line.items ≤ MAX_LINE + 1 }
+        ensures empty { OnOk result (self.new.line.items ≡ []) }
         ensures cause { HasCause (W.faults sink.old) (W.faults sink.new) Stop.WriteFault result }
-        ensures fed { OnOk result (Fed self.old.library self.old.line.items (with_feed front.now)
-            self.new.library self.new.line.items (W.taken sink.old) (W.taken sink.new)) }
-        ensures stopped { OnErr result ((more : List ℕ)
-            → Stopped self.old.library self.old.line.items (with_feed front.now ++ more)
+        ensures fed { OnOk result ((line : List ℕ) → Keeps self.old.line.items line
+            → Fed self.old.library line (with_feed front.now)
+            self.new.library [] (W.taken sink.old) (W.taken sink.new)) }
+        ensures stopped { OnErr result ((line more : List ℕ) → Keeps self.old.line.items line
+            → Stopped self.old.library line (with_feed front.now ++ more)
             (W.taken sink.old) (W.taken sink.new)) }
     {
         if self.line.is_empty() {
@@ -163,7 +179,7 @@ impl Session {
         }
     }
 
-    // Answers the kept line as it is.
+    // Answers the kept line. By its front, a line that is too long is refused as it is by all its bytes.
     fn answer_kept<W: Sink, L: Ledger>(
         &mut self,
         alloc: Global,
@@ -171,10 +187,12 @@ impl Session {
         steps: &mut Steps<L>,
     ) -> Result<(), Failed>
         ensures cause { HasCause (W.faults sink.old) (W.faults sink.new) failed result }
-        ensures sent { LineSent self.old.library self.old.line.items self.new.library
-            (W.taken sink.old) (W.taken sink.new) result }
+        ensures sent { (line : List ℕ) → self.old.line.items ≡ kept_of line
+            → LineSent self.old.library line self.new.library (W.taken sink.old) (W.taken sink.new) result }
         ensures empty { OnOk result (self.new.line.items ≡ []) }
+        ensures same { OnErr result (self.new.line.items ≡ self.old.line.items) }
     {
+        long_line_laws();
         match answer_line(alloc, &mut self.library, &self.line, sink, steps) {
             Ok(()) => {
                 self.line.clear();

@@ -112,22 +112,22 @@ fn failing(alloc: Global, call: u64) -> Result<CallList, NoMemory> {
     Ok(calls)
 }
 
+// A source whose reads give at most so many bytes each.
 fn source_of(
     rt: &impl Abort,
     alloc: Global,
     input: &str,
-    manner: Manner,
+    piece: usize,
+    failing_read: u64,
 ) -> Result<BytesSource, NoMemory> {
     let mut bytes = ByteList::new(alloc);
     bytes.push_all(input.as_bytes())?;
     let mut cuts = SizeList::new(alloc);
-    if manner.narrow {
-        for _ in 0..input.len() {
-            cuts.push(1)?;
-        }
+    for _ in 0..input.len() {
+        cuts.push(piece)?;
     }
     assert!(rt; cuts.as_slice().iter().all(|cut| 0 < *cut));
-    Ok(BytesSource::new(bytes, cuts, failing(alloc, manner.failing_read)?))
+    Ok(BytesSource::new(bytes, cuts, failing(alloc, failing_read)?))
 }
 
 // The status of a session over the input, and what was written.
@@ -138,11 +138,22 @@ fn played(
     input: &str,
     manner: Manner,
 ) -> Result<(Status, Vec<u8>), NoMemory> {
+    let piece = if manner.narrow { 1 } else { 65_536 };
+    let source = source_of(rt, alloc, input, piece, manner.failing_read)?;
+    played_from(rt, alloc, words, source, manner)
+}
+
+fn played_from(
+    rt: &impl Threads,
+    alloc: Global,
+    words: &[&str],
+    mut source: BytesSource,
+    manner: Manner,
+) -> Result<(Status, Vec<u8>), NoMemory> {
     let mut owned = Vec::new(alloc);
     for word in words {
         owned.push(String::from_str(alloc, word)?)?;
     }
-    let mut source = source_of(rt, alloc, input, manner)?;
     let mut sink = BytesSink::new(alloc, 65_536, failing(alloc, manner.failing_write)?)?;
     if !manner.narrow {
         let status = run_counted::<_, _, Brand>(
@@ -232,6 +243,80 @@ fn sessions_are_answered(rt: HostRuntime) -> Result<(), Fail> {
             let (status, written) = played(&rt, alloc, &["play", "-"], &input, manner)?;
             assert_eq!(rt; status, Status::Done);
             assert_eq!(rt; written.as_slice(), output.as_bytes(), "after {input}");
+        }
+    }
+    Ok(())
+}
+
+// A line of this text and spaces behind it up to so many bytes, and what ends it.
+#[derive(Clone, Copy)]
+struct Padded {
+    text: &'static str,
+    bytes: usize,
+    end: &'static str,
+}
+
+const IMPORT: &str =
+    "{\"do\":\"import\",\"sha256\":\"0000000000000000000000000000000000000000000000000000000000000000\",\"hashes\":[],\"size\":1,\"width\":1,\"height\":1}";
+
+const fn line_of(text: &'static str, bytes: usize, end: &'static str) -> Padded {
+    Padded { text, bytes, end }
+}
+
+fn padded_input(alloc: Global, lines: &[Padded]) -> Result<String, AllocError> {
+    let mut input = String::new(alloc);
+    for line in lines {
+        input.push_str(line.text)?;
+        for _ in line.text.len()..line.bytes {
+            input.push(' ')?;
+        }
+        input.push_str(line.end)?;
+    }
+    Ok(input)
+}
+
+// A line may have 65,536 bytes, whatever pieces it comes in, and the line behind a longer one is answered.
+#[test]
+fn a_line_has_a_limit(rt: HostRuntime) -> Result<(), Fail> {
+    let alloc = rt.alloc();
+    let manner = Manner {
+        narrow: false,
+        failing_read: 0,
+        failing_write: 0,
+    };
+    let cases: [([Padded; 2], &str); 5] = [
+        (
+            [line_of("", 65_536, "\n"), line_of("", 65_537, "\n")],
+            "{\"error\":\"not_json\"}\n{\"error\":\"line_too_long\"}\n",
+        ),
+        (
+            [line_of(IMPORT, 65_537, "\n"), line_of(IMPORT, 65_536, "\n")],
+            "{\"error\":\"line_too_long\"}\n{\"file\":0,\"status\":1}\n",
+        ),
+        (
+            [line_of("", 200_000, "\n"), line_of(IMPORT, 0, "\n")],
+            "{\"error\":\"line_too_long\"}\n{\"file\":0,\"status\":1}\n",
+        ),
+        (
+            [line_of(IMPORT, 0, "\n"), line_of(IMPORT, 65_536, "")],
+            "{\"file\":0,\"status\":1}\n{\"file\":0,\"status\":2}\n",
+        ),
+        (
+            [line_of(IMPORT, 0, "\n"), line_of(IMPORT, 65_537, "")],
+            "{\"file\":0,\"status\":1}\n{\"error\":\"line_too_long\"}\n",
+        ),
+    ];
+    for (lines, output) in cases {
+        let input = padded_input(alloc, &lines)?;
+        for piece in [1, 4_096, 65_536] {
+            let source = source_of(&rt, alloc, &input, piece, 0)?;
+            let (status, written) = played_from(&rt, alloc, &["play", "-"], source, manner)?;
+            assert_eq!(rt; status, Status::Done);
+            assert_eq!(rt;
+                written.as_slice(),
+                output.as_bytes(),
+                "in pieces of {piece}"
+            );
         }
     }
     Ok(())

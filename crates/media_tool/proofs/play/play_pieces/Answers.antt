@@ -1,4 +1,5 @@
 use Rattle.std.proofs.Common.{◌≡◌, ◌<◌, ◌≤◌, ℕ, subst, arith}
+use Rattle.media_tool.proofs.Kept.{keeps_fits}
 use Rattle.media_tool.proofs.Plays.{PlayedSoFar, so_far_start, so_far_piece, plays_write_fault, plays_no_memory, plays_too_long}
 use Rattle.media_tool.proofs.play.play_pieces.Goals as goal
 
@@ -8,6 +9,9 @@ loop-room-init g c = record {
   later_write = omega arith;
   so_far = so_far_start c.args.session.now.library c.args.session.now.line.items (g.S.Source.left c.args.source.now) (g.W.Sink.taken c.args.sink.now) c.requires.library c.requires.line;
 }
+
+pub feed-requires : goal.feed-requires
+feed-requires g c = keeps_fits c.loop-room.session.line.items _ c.loop-room.invariant.so_far.fed.keeps
 
 pub returns-in-Err-WriteFault-clause-plays : goal.returns-in-Err-WriteFault-clause-plays
 returns-in-Err-WriteFault-clause-plays g c =

@@ -1,11 +1,15 @@
-use Rattle.std.proofs.Common.{◌≤◌, length}
-use Rattle.media_tool.proofs.Feeds.{FedSoFar}
+use Rattle.std.proofs.Common.{◌≤◌, ◌+◌, List, ℕ, length}
+use Rattle.command_text.specs.declared.request.TheConstants.{MAX_LINE}
+use Rattle.media_tool.specs.Kept.{Keeps}
+use Rattle.media_tool.proofs.Kept.{KeptSoFar}
 use Rattle.media_tool.proofs.session.Session.feed.Given as goal
 
 abbrev pub invariant-loop-line : goal.invariant-loop-line
 invariant-loop-line g l = record {
   later : g.W.Sink.faults l.fn.sink ≤ g.W.Sink.faults l.sink;
-  so_far : FedSoFar l.fn.self.library l.fn.self.line.items l.piece l.self.library l.self.line.items l.rest (g.W.Sink.taken l.fn.sink) (g.W.Sink.taken l.sink);
+  fits : length l.self.line.items ≤ MAX_LINE + 1;
+  so_far : (line : List ℕ) → Keeps l.fn.self.line.items line
+      → KeptSoFar l.fn.self.library line l.piece l.self.library l.self.line.items l.rest (g.W.Sink.taken l.fn.sink) (g.W.Sink.taken l.sink);
 }
 
 abbrev pub decreases-loop-line : goal.decreases-loop-line
