@@ -1,13 +1,14 @@
-//! The library in memory: it keeps the records, and answers commands about them as the machine does.
+//! The library: it records, keeps each change before it commits it, and answers commands as the machine
+//! does.
 #![tactic(auto)]
 
 mod library;
+mod load;
+mod load_fail;
 mod numbers;
 mod plan;
 mod planning;
 mod tables;
 
 pub use library::Library;
-
-#[cfg(test)]
-mod tests;
+pub use load_fail::LoadFail;

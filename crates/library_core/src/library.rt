@@ -1,41 +1,40 @@
-ghost use Rattle.std.specs.Prelude.{◌≡◌};
+ghost use Rattle.std.specs.Prelude.{◌≡◌, ◌≢◌, ◌⊎◌, ◌+◌, ◌<◌, ◌≤◌, true, Some, Ok};
+ghost use Rattle.media_types.specs.Cause.{Rose};
+ghost use Rattle.media_base.specs.Keeping.{Readings};
+ghost use Rattle.media_base.specs.declared.change.Change.{Change as ChangeValue};
 ghost use Rattle.media_base.specs.declared.refusal.Refusal.{Refusal};
-ghost use Rattle.library_machine.specs.Records.{Fits, no_records};
+ghost use Rattle.library_machine.specs.Changes.{kept_with, opened};
+ghost use Rattle.library_machine.specs.Records.{Fits};
 ghost use Rattle.library_machine.specs.Step as machine;
+ghost use Rattle.library_core.specs.Opening.{put_refusal};
 
 use crate::plan::Prepared;
 use crate::tables::Tables;
-use media_base::{Caller, Command, Refusal, Reply, Steps};
-use std::alloc::Global;
+use media_base::{Caller, Command, Keeper, PutFault, Refusal, Reply, Steps};
 use std::marker::Model;
 use std::sync::ledger::Ledger;
 
-/// A library in memory. Contracts see its records.
+/// A library and the keeper of its changes. Contracts see its records and the keeper.
 #[derive(Drop)]
-pub struct Library {
-    tables: Tables,
+pub struct Library<K: Keeper> {
+    pub(crate) tables: Tables,
+    pub(crate) keeper: K,
 }
 
-impl Model for Library {
-    ghost use Rattle.library_machine.specs.Records.{Records};
+impl<K: Keeper> Model for Library<K> {
+    ghost use Rattle.library_core.specs.Keeping.{LibraryView, IsInStep};
     ghost use Rattle.library_core.specs.Tables.{records_of};
 
-    ghost Value = { Records };
+    ghost Value = { LibraryView K };
 
-    ghost view = { λ l. records_of l.tables };
+    ghost view = { λ l. record { records = records_of l.tables; keeper = l.keeper } };
+
+    ghost invariant = { λ l. IsInStep K.ready K.place K.alien K.kept (records_of l.tables) l.keeper };
 }
 
-impl Library {
-    /// A library with nothing in it. It takes no memory yet.
-    pub fn new(alloc: Global) -> Library
-        ensures { result ≡ no_records }
-    {
-        Library {
-            tables: Tables::new(alloc),
-        }
-    }
-
-    /// Does what the command says, and answers it.
+impl<K: Keeper> Library<K> {
+    /// Does what the command says, and answers it. Where the records would change, the change is put into the
+    /// keeper first; it is committed only once it is kept.
     ///
     /// A known file is found without a walk over the files. Decisions, undoings and questions of relations
     /// take time in proportion to the files; an undoing makes all standing decisions anew. `steps` counts
@@ -46,13 +45,34 @@ impl Library {
         command: &Command,
         steps: &mut Steps<L>,
     ) -> Reply
-        ensures answered { machine.Answered self.old caller command.now result self.new }
-        ensures refused { (why : Refusal) → result ≡ Reply.Refused why → self.new ≡ self.old }
-        ensures fits { Fits self.new }
+        ensures answered { machine.Answered self.old.records caller command.now result self.new.records }
+        ensures fits { Fits self.new.records }
+
+        // After a refusal nothing has changed, and otherwise the keeper has the change of the step.
+        ensures refused { (why : Refusal) → result ≡ Reply.Refused why → self.new.records ≡ self.old.records }
+        ensures kept { K.kept self.new.keeper
+            ≡ kept_with (machine.step self.old.records caller command.now).change result (K.kept self.old.keeper) }
+        ensures opens { (readings : Readings) → K.kept self.new.keeper ≡ Some readings
+            → opened readings ≡ Ok self.new.records }
+
+        // `journal_full` comes exactly where the records would change and there is no room for the change.
+        ensures full { result ≡ Reply.Refused Refusal.JournalFull → (change : ChangeValue)
+            → (machine.step self.old.records caller command.now).change ≡ Some change
+            → K.limit self.old.keeper < K.used self.old.keeper + K.units self.old.keeper change }
+        ensures no_room { (change : ChangeValue)
+            → (machine.step self.old.records caller command.now).change ≡ Some change
+            → K.limit self.old.keeper < K.used self.old.keeper + K.units self.old.keeper change
+            → (result ≡ Reply.Refused Refusal.NoMemory) ⊎ (result ≡ Reply.Refused Refusal.JournalFull) }
+
+        ensures later { K.faults self.old.keeper ≤ K.faults self.new.keeper }
+        ensures not_kept { result ≡ Reply.Refused Refusal.NotKept
+            → Rose (K.faults self.old.keeper) (K.faults self.new.keeper) }
+        ensures own { K.alien self.new.keeper ≡ K.alien self.old.keeper }
     {
         library_machine::refusals_change_nothing();
+        library_machine::changes_are_kept();
         let Caller::Console = caller;
-        let reply = match self.tables.plan(command, steps) {
+        match self.tables.plan(command, steps) {
             Ok(Prepared::Told(reply)) => reply,
             Ok(
                 Prepared::Change {
@@ -60,15 +80,38 @@ impl Library {
                     change,
                     reply,
                 },
-            ) => {
-                drop(change);
-                self.tables.commit(plan);
-                reply
-            }
-            Err(_) => Reply::Refused(Refusal::NoMemory),
-        };
-        // Callers see the records alone; what all tables keep to is learned at one of them.
-        let _files = &self.tables.files;
-        reply
+            ) => match self.keeper.put(&change) {
+                Ok(()) => {
+                    self.tables.commit(plan);
+                    reply
+                }
+                Err(fault) => {
+                    self.tables.withdraw(plan);
+                    Reply::Refused(refusal_of(fault))
+                }
+            },
+            Err(_want) => Reply::Refused(Refusal::NoMemory),
+        }
+    }
+
+    /// Hands the keeper back.
+    pub fn release(self) -> K
+        ensures keeper { result ≡ self.keeper }
+        ensures own { K.alien result ≢ Some true }
+        ensures opens { (readings : Readings) → K.kept result ≡ Some readings
+            → opened readings ≡ Ok self.records }
+    {
+        self.keeper
+    }
+}
+
+/// Why a command is refused whose change wasn't kept.
+fn refusal_of(fault: PutFault) -> Refusal
+    ensures { result ≡ put_refusal fault }
+{
+    match fault {
+        PutFault::Failed => Refusal::NotKept,
+        PutFault::NoMemory => Refusal::NoMemory,
+        PutFault::Full => Refusal::JournalFull,
     }
 }

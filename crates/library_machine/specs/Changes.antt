@@ -1,13 +1,25 @@
 -- The changes that are kept, and the records that they open.
-use Rattle.std.specs.Prelude.{ℕ, ◌+◌, List, [], ◌∷◌, Option, Some, None, Result, Ok, Err}
+use Rattle.std.specs.Prelude.{ℕ, ◌+◌, Bool, true, false, if◌then◌else◌, [], ◌∷◌, Option, Some, None, option_map, Result, Ok, Err}
 use Rattle.std.specs.Option.{option_map_or}
 use Rattle.media_base.specs.declared.change.Change.{Change}
 use Rattle.media_base.specs.declared.change.Change.TheVariants as changes
 use Rattle.media_base.specs.declared.command.Caller.TheVariants as callers
 use Rattle.media_base.specs.declared.command.Command.{Command}
 use Rattle.media_base.specs.declared.command.Command.TheVariants as commands
+use Rattle.media_base.specs.declared.reply.Reply.{Reply}
+use Rattle.media_base.specs.declared.reply.Reply.TheVariants as replies
+use Rattle.media_base.specs.Keeping.{Readings, with_change}
 use Rattle.library_machine.specs.Records.{Records, no_records}
 use Rattle.library_machine.specs.Step.{step}
+
+abbrev pub is_refused : Reply → Bool
+is_refused (replies.Refused why) = true
+is_refused reply = false
+
+-- what is kept, with the change of a step behind it where the step wasn't refused
+abbrev pub kept_with : Option Change → Reply → Option Readings → Option Readings
+kept_with None reply kept = kept
+kept_with (Some change) reply kept = if is_refused reply then kept else option_map (with_change change) kept
 
 -- the console's command of the same meaning
 abbrev pub command_of : Change → Command
@@ -33,11 +45,11 @@ after_reading r (Some change) = after_change r change
 
 -- The records that the kept changes lead to, one after the other, from these records on; or the number of
 -- the first that has no reading or isn't lawful. The first place has the number n.
-abbrev pub opened_from : ℕ → Records → List (Option Change) → Result Records ℕ
+abbrev pub opened_from : ℕ → Records → Readings → Result Records ℕ
 opened_from n r [] = Ok r
 opened_from n r (reading ∷ readings) =
     option_map_or (λ after. opened_from (n + 1) after readings) (after_reading r reading) (Err n)
 
 -- the same from the beginning
-abbrev pub opened : List (Option Change) → Result Records ℕ
+abbrev pub opened : Readings → Result Records ℕ
 opened = opened_from 0 no_records

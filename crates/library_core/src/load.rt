@@ -1,0 +1,127 @@
+ghost use Rattle.std.specs.Prelude.{◌≡◌, ◌≢◌, ◌≤◌, ℕ, true, false, Option, Some, None, Ok, Err, slice_get, option_map, IfOk, IfErr, OnOk};
+ghost use Rattle.media_types.specs.Cause.{HasCause, Rose};
+ghost use Rattle.media_base.specs.Keeping.{Readings, HasMore, next_place};
+ghost use Rattle.media_base.specs.declared.change.Change.{Change as ChangeValue};
+ghost use Rattle.library_machine.specs.Changes.{after_reading, command_of, opened};
+ghost use Rattle.library_machine.specs.Records.{Fits};
+ghost use Rattle.library_core.specs.Tables.{records_of};
+
+use crate::library::Library;
+use crate::load_fail::LoadFail;
+use crate::plan::Prepared;
+use crate::tables::Tables;
+use media_base::{Change, Command, Keeper, NextFault, Steps};
+use std::alloc::Global;
+use std::sync::ledger::Ledger;
+
+// Why a change wasn't taken.
+#[derive(Clone, Copy, Debug, PartialEq, Eq)]
+enum TakeFault {
+    Failed,
+    NoMemory,
+    // It has no reading, or isn't lawful.
+    Bad,
+}
+
+// The console's command of the same meaning.
+fn command_from(change: Change) -> Command
+    ensures { result ≡ command_of change }
+{
+    match change {
+        Change::File(file) => Command::Import(file),
+        Change::Decision(decision) => Command::Decide(decision),
+        Change::Undo(number) => Command::Undo(number),
+    }
+}
+
+// Does what the keeper's next change says.
+fn take_next<K: Keeper, L: Ledger>(
+    tables: &mut Tables,
+    keeper: &mut K,
+    steps: &mut Steps<L>,
+) -> Result<(), TakeFault>
+    requires ready { K.ready keeper.old }
+    requires more { HasMore (K.place keeper.old) }
+    ensures cause { HasCause (K.faults keeper.old) (K.faults keeper.new) TakeFault.Failed result }
+    ensures taken { (readings : Readings) (given told : ℕ) → K.gives keeper.old ≡ Some readings
+        → K.place keeper.old ≡ Some (given, told)
+        → OnOk result ((reading : Option ChangeValue) → slice_get readings given ≡ Some reading
+        → after_reading (records_of tables.old) reading ≡ Some (records_of tables.new)) }
+    ensures bad { (readings : Readings) (given told : ℕ) → K.gives keeper.old ≡ Some readings
+        → K.place keeper.old ≡ Some (given, told) → result ≡ Err TakeFault.Bad
+        → (reading : Option ChangeValue) → slice_get readings given ≡ Some reading
+        → after_reading (records_of tables.old) reading ≡ None }
+    ensures ready { K.ready keeper.new }
+    ensures place { OnOk result (K.place keeper.new ≡ option_map next_place (K.place keeper.old)) }
+    ensures same_alien { K.alien keeper.new ≡ K.alien keeper.old }
+    ensures same_gives { K.gives keeper.new ≡ K.gives keeper.old }
+    ensures same_kept { K.kept keeper.new ≡ K.kept keeper.old }
+{
+    let change = match keeper.next() {
+        Ok(change) => change,
+        Err(NextFault::Failed) => return Err(TakeFault::Failed),
+        Err(NextFault::NoMemory) => return Err(TakeFault::NoMemory),
+        Err(NextFault::Unreadable) => return Err(TakeFault::Bad),
+    };
+    let command = command_from(change);
+    match tables.plan(&command, steps) {
+        Ok(
+            Prepared::Change {
+                plan,
+                change,
+                reply,
+            },
+        ) => {
+            drop(change);
+            drop(reply);
+            tables.commit(plan);
+            Ok(())
+        }
+        Ok(Prepared::Told(_reply)) => Err(TakeFault::Bad),
+        Err(_want) => Err(TakeFault::NoMemory),
+    }
+}
+
+impl<K: Keeper> Library<K> {
+    /// Opens a library: starts the keeper, and does in order what its changes say.
+    pub fn load<L: Ledger>(
+        alloc: Global,
+        keeper: K,
+        steps: &mut Steps<L>,
+    ) -> Result<Library<K>, (LoadFail, K)>
+        // The records are those that the keeper's changes open. A store is bad exactly where they open none.
+        ensures opened { (readings : Readings) → K.gives keeper ≡ Some readings
+            → IfOk result (λ library. opened readings ≡ Ok library.records) }
+        ensures fits { IfOk result (λ library. Fits library.records) }
+        ensures bad { (readings : Readings) (n : ℕ) → K.gives keeper ≡ Some readings
+            → IfErr result (λ fail. fail.0 ≡ LoadFail.BadStore n → opened readings ≡ Err n) }
+
+        // Each other fault has its cause.
+        ensures own { IfOk result (λ library. K.alien keeper ≢ Some true) }
+        ensures alien { IfErr result (λ fail. fail.0 ≡ LoadFail.AlienStore → K.alien keeper ≢ Some false) }
+        ensures later { IfOk result (λ library. K.faults keeper ≤ K.faults library.keeper) }
+        ensures later_fail { IfErr result (λ fail. K.faults keeper ≤ K.faults fail.1) }
+        ensures store { IfErr result (λ fail. fail.0 ≡ LoadFail.StoreFault
+            → Rose (K.faults keeper) (K.faults fail.1)) }
+
+        // What is kept stays.
+        ensures kept { IfOk result (λ library. K.kept library.keeper ≡ K.kept keeper) }
+        ensures kept_fail { IfErr result (λ fail. K.kept fail.1 ≡ K.kept keeper) }
+    {
+        let mut keeper = keeper;
+        let count = match keeper.start() {
+            Ok(count) => count,
+            Err(fault) => return Err((LoadFail::from(fault), keeper)),
+        };
+        let mut tables = Tables::new(alloc);
+        for number in 0..count {
+            match take_next(&mut tables, &mut keeper, steps) {
+                Ok(()) => {}
+                Err(TakeFault::Failed) => return Err((LoadFail::StoreFault, keeper)),
+                Err(TakeFault::NoMemory) => return Err((LoadFail::NoMemory, keeper)),
+                Err(TakeFault::Bad) => return Err((LoadFail::BadStore(number), keeper)),
+            }
+        }
+        Ok(Library { tables, keeper })
+    }
+}
