@@ -1,60 +1,102 @@
--- What a whole session writes for the bytes that it was given.
-use Rattle.std.specs.Prelude.{◌≡◌, ℕ, ◌<◌, ◌↔◌, List, [], ◌++◌, length, Option}
+-- What a whole session writes and keeps for the bytes that it was given.
+use Rattle.std.specs.Prelude.{◌≡◌, ◌≢◌, ℕ, ◌<◌, ◌≤◌, ◌↔◌, List, [], ◌++◌, length, Option, Some, Ok}
+use Rattle.media_base.specs.Keeping.{Readings}
 use Rattle.media_base.specs.Transfer.{Gave, Took, TookFront}
 use Rattle.media_base.specs.declared.reply.Reply.{Reply}
 use Rattle.media_base.specs.declared.status.Status.{Status}
 use Rattle.media_base.specs.declared.status.Status.TheVariants as statuses
-use Rattle.library_machine.specs.Records.{Records, no_records}
+use Rattle.library_machine.specs.Changes.{opened}
+use Rattle.library_core.specs.declared.load_fail.LoadFail.{LoadFail}
+use Rattle.library_core.specs.declared.load_fail.LoadFail.TheVariants as fails
 use Rattle.media_tool.specs.Lines.{Cut, with_rest}
-use Rattle.media_tool.specs.Run.{Run, text_of}
+use Rattle.media_tool.specs.Run.{Run, State, text_of}
 use Rattle.media_tool.specs.declared.play.TheConstants.{MAX_INPUT}
 
--- Some of the lines of the bytes were answered, from empty records on, and the sink took something of the text.
-pub record Answers (given : List ℕ) (some : List (List ℕ) → List ℕ → List (List ℕ)) (TookOf : List ℕ → Type 0) : Type 0 where
+-- Some of the lines of the bytes were answered, from one state to another, and the sink took something of
+-- the text.
+pub record Answers (opening after : State) (given : List ℕ) (some : List (List ℕ) → List ℕ → List (List ℕ)) (TookOf : List ℕ → Type 0) : Type 0 where
   pub lines : List (List ℕ)
   pub rest : List ℕ
   pub cut : Cut given lines rest
   pub replies : List Reply
-  pub after : Records
-  pub run : Run no_records (some lines rest) replies after
+  pub run : Run opening (some lines rest) replies after
   pub took : TookOf (text_of replies)
 
 -- All lines were answered, a last one without a line feed too, and the sink took the text.
-abbrev pub AnswersAll : List ℕ → Option (List ℕ) → Option (List ℕ) → Type 0
-AnswersAll given old new = Answers given with_rest (Took old new)
+abbrev pub AnswersAll : State → State → List ℕ → Option (List ℕ) → Option (List ℕ) → Type 0
+AnswersAll opening after given old new = Answers opening after given with_rest (Took old new)
 
 -- The lines that a line feed ended were answered, and the sink took the text; a rest was not answered.
-abbrev pub AnswersEnded : List ℕ → Option (List ℕ) → Option (List ℕ) → Type 0
-AnswersEnded given old new = Answers given (λ lines rest. lines) (Took old new)
+abbrev pub AnswersEnded : State → State → List ℕ → Option (List ℕ) → Option (List ℕ) → Type 0
+AnswersEnded opening after given old new = Answers opening after given (λ lines rest. lines) (Took old new)
 
 -- The sink took a front of a text of all lines.
-abbrev pub AnswersFront : List ℕ → Option (List ℕ) → Option (List ℕ) → Type 0
-AnswersFront given old new = Answers given with_rest (TookFront old new)
+abbrev pub AnswersFront : State → State → List ℕ → Option (List ℕ) → Option (List ℕ) → Type 0
+AnswersFront opening after given old new = Answers opening after given with_rest (TookFront old new)
 
 -- More bytes came than a session takes; the lines that ended within the limit were answered.
-pub record AnswersWithin (given : List ℕ) (old new : Option (List ℕ)) : Type 0 where
+pub record AnswersWithin (opening after : State) (given : List ℕ) (old new : Option (List ℕ)) : Type 0 where
   pub front : List ℕ
   pub more : List ℕ
   pub split : given ≡ front ++ more
   pub limit : length front ≡ MAX_INPUT
-  pub answers : AnswersEnded front old new
+  pub answers : AnswersEnded opening after front old new
+
+-- Nothing was given, answered or taken.
+pub record AnswersNothing (opening after : State) (given : List ℕ) (old new : Option (List ℕ)) : Type 0 where
+  pub none : given ≡ []
+  pub same : after ≡ opening
+  pub took : new ≡ old
 
 -- What the sink took at each end of a session over the bytes given.
-abbrev pub Played : Status → List ℕ → Option (List ℕ) → Option (List ℕ) → Type 0
-Played statuses.Done given old new = AnswersAll given old new
-Played statuses.Usage given old new = (given ≡ []) × (new ≡ old)
-Played statuses.ReadFault given old new = AnswersEnded given old new
-Played statuses.WriteFault given old new = AnswersFront given old new
-Played statuses.NoMemory given old new = AnswersFront given old new
-Played statuses.InputTooLong given old new = AnswersWithin given old new
-Played statuses.StoreFault given old new = ⊥
-Played (statuses.BadStore n) given old new = ⊥
-Played statuses.AlienStore given old new = ⊥
+abbrev pub Played : Status → State → State → List ℕ → Option (List ℕ) → Option (List ℕ) → Type 0
+Played statuses.Done opening after given old new = AnswersAll opening after given old new
+Played statuses.ReadFault opening after given old new = AnswersEnded opening after given old new
+Played statuses.WriteFault opening after given old new = AnswersFront opening after given old new
+Played statuses.NoMemory opening after given old new = AnswersFront opening after given old new
+Played statuses.InputTooLong opening after given old new = AnswersWithin opening after given old new
+Played statuses.Usage opening after given old new = AnswersNothing opening after given old new
+Played statuses.StoreFault opening after given old new = AnswersNothing opening after given old new
+Played (statuses.BadStore n) opening after given old new = AnswersNothing opening after given old new
+Played statuses.AlienStore opening after given old new = AnswersNothing opening after given old new
 
--- A session: the source gave some bytes, the status says whether they passed the limit, and the sink took what
--- the status promises for them.
-pub record Plays (status : Status) (left_old left_new taken_old taken_new : Option (List ℕ)) : Type 0 where
+-- A session from one state to another: the source gave some bytes, the status says whether they passed the
+-- limit, and the sink took what the status promises for them.
+pub record PlaysFrom (opening after : State) (status : Status) (left_old left_new taken_old taken_new : Option (List ℕ)) : Type 0 where
   pub given : List ℕ
   pub gave : Gave left_old left_new given
   pub limit : (status ≡ statuses.InputTooLong) ↔ (MAX_INPUT < length given)
-  pub played : Played status given taken_old taken_new
+  pub played : Played status opening after given taken_old taken_new
+
+-- A session ends so once its library is open.
+abbrev pub HasRun : Status → Type 0
+HasRun statuses.Usage = ⊥
+HasRun statuses.StoreFault = ⊥
+HasRun (statuses.BadStore n) = ⊥
+HasRun statuses.AlienStore = ⊥
+HasRun status = Unit {0}
+
+-- The library was open: at each of these ends, but where memory ran out only if bytes were given.
+abbrev pub HasOpened : Status → List ℕ → Type 0
+HasOpened statuses.NoMemory given = given ≢ []
+HasOpened status given = HasRun status
+
+-- A session over a keeper. It begins with the records that the keeper's changes open, and the keeper then
+-- keeps what the replies say: so its changes open the records at the end of the session.
+pub record Plays (gives kept_old kept_new : Option Readings) (faults_old faults_new : ℕ) (status : Status) (left_old left_new taken_old taken_new : Option (List ℕ)) : Type 0 where
+  pub opening : State
+  pub after : State
+  pub session : PlaysFrom opening after status left_old left_new taken_old taken_new
+  pub opens : HasOpened status session.given → (readings : Readings) → gives ≡ Some readings → opened readings ≡ Ok opening.records
+  pub reopens : HasOpened status session.given → (readings : Readings) → kept_new ≡ Some readings → opened readings ≡ Ok after.records
+  pub kept_first : opening.kept ≡ kept_old
+  pub kept_last : kept_new ≡ after.kept
+  pub faults_first : faults_old ≤ opening.faults
+  pub faults_last : after.faults ≤ faults_new
+
+-- how a session ends whose library doesn't open
+abbrev pub load_status : LoadFail → Status
+load_status fails.StoreFault = statuses.StoreFault
+load_status fails.NoMemory = statuses.NoMemory
+load_status (fails.BadStore n) = statuses.BadStore n
+load_status fails.AlienStore = statuses.AlienStore

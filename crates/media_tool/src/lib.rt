@@ -8,7 +8,7 @@ mod program;
 mod session;
 mod standard;
 
-pub use laws::{ended_lines_are_a_front, one_cut};
+pub use laws::{ended_lines_are_a_front, failures_are_counted, one_cut};
 pub use play::MAX_INPUT;
 pub use program::run;
 pub use standard::{StdSink, StdSource};

@@ -1,13 +1,16 @@
-ghost use Rattle.std.specs.Prelude.{◌≡◌, ◌≢◌, ◌<◌, ◌≤◌, [], length, IfOk, MatchResult};
+ghost use Rattle.std.specs.Prelude.{◌≡◌, ◌≢◌, ◌<◌, ◌≤◌, ℕ, [], length, true, false, Some, Err, IfOk, MatchResult};
 ghost use Rattle.std.specs.Io.KnownBytes.{IsAtEnd};
-ghost use Rattle.library_machine.specs.Records.{no_records};
+ghost use Rattle.library_machine.specs.Changes.{opened};
 ghost use Rattle.media_types.specs.Cause.{HasCause, Rose, failed};
+ghost use Rattle.media_base.specs.Keeping.{Readings};
 ghost use Rattle.media_base.specs.Transfer.{GaveFront};
-ghost use Rattle.media_tool.specs.Session.{Plays};
+ghost use Rattle.media_tool.specs.Run.{state_of};
+ghost use Rattle.media_tool.specs.Session.{HasOpened, HasRun, Plays, PlaysFrom, load_status};
 ghost use Rattle.media_tool.specs.declared.play.TheConstants.{PIECE};
 
 use crate::session::{Session, Stop};
-use media_base::{Failed, Sink, Source, Status, Steps};
+use library_core::{Library, LoadFail};
+use media_base::{Failed, Keeper, Sink, Source, Status, Steps};
 use std::alloc::Global;
 use std::sync::ledger::Ledger;
 
@@ -30,20 +33,20 @@ fn read_front<S: Source>(source: &mut S, chunk: &mut [u8], most: usize) -> Resul
 }
 
 // Answers what the source gives, piece by piece.
-fn play_pieces<S: Source, W: Sink, L: Ledger>(
+fn play_pieces<S: Source, W: Sink, K: Keeper, L: Ledger>(
     alloc: Global,
-    session: &mut Session,
+    session: &mut Session<K>,
     chunk: &mut [u8],
     source: &mut S,
     sink: &mut W,
     steps: &mut Steps<L>,
 ) -> Status
-    requires library { session.old.library ≡ no_records }
     requires line { session.old.line.items ≡ [] }
     requires chunk { length chunk.old ≡ PIECE }
-    ensures plays { Plays result (S.left source.old) (S.left source.new) (W.taken sink.old) (W.taken sink.new) }
+    ensures plays { PlaysFrom (state_of K.kept K.faults session.old.library) (state_of K.kept K.faults session.new.library)
+        result (S.left source.old) (S.left source.new) (W.taken sink.old) (W.taken sink.new) }
     ensures done { result ≡ Status.Done → IsAtEnd (S.left source.new) }
-    ensures ran { result ≢ Status.Usage }
+    ensures ran { HasRun result }
     ensures later_read { S.faults source.old ≤ S.faults source.new }
     ensures later_write { W.faults sink.old ≤ W.faults sink.new }
     ensures read { result ≡ Status.ReadFault → Rose (S.faults source.old) (S.faults source.new) }
@@ -71,24 +74,71 @@ fn play_pieces<S: Source, W: Sink, L: Ledger>(
     }
 }
 
-/// Answers the lines of the source, from an empty library on.
-pub fn play<S: Source, W: Sink, L: Ledger>(
+// Answers the lines of the source, in a session that has answered none yet.
+fn play_session<S: Source, W: Sink, K: Keeper, L: Ledger>(
     alloc: Global,
+    session: &mut Session<K>,
     source: &mut S,
     sink: &mut W,
     steps: &mut Steps<L>,
 ) -> Status
-    ensures plays { Plays result (S.left source.old) (S.left source.new) (W.taken sink.old) (W.taken sink.new) }
+    requires { session.old.line.items ≡ [] }
+    ensures plays { PlaysFrom (state_of K.kept K.faults session.old.library) (state_of K.kept K.faults session.new.library)
+        result (S.left source.old) (S.left source.new) (W.taken sink.old) (W.taken sink.new) }
     ensures done { result ≡ Status.Done → IsAtEnd (S.left source.new) }
-    ensures ran { result ≢ Status.Usage }
+    ensures ran { HasRun result }
     ensures later_read { S.faults source.old ≤ S.faults source.new }
     ensures later_write { W.faults sink.old ≤ W.faults sink.new }
     ensures read { result ≡ Status.ReadFault → Rose (S.faults source.old) (S.faults source.new) }
     ensures write { result ≡ Status.WriteFault → Rose (W.faults sink.old) (W.faults sink.new) }
 {
-    let mut session = Session::new(alloc);
     match vec![in alloc; 0; PIECE] {
-        Ok(mut chunk) => play_pieces(alloc, &mut session, &mut chunk, source, sink, steps),
+        Ok(mut chunk) => play_pieces(alloc, session, &mut chunk, source, sink, steps),
         Err(_) => Status::NoMemory,
+    }
+}
+
+// How a session ends whose library doesn't open.
+fn status_of(fail: LoadFail) -> Status
+    ensures { result ≡ load_status fail }
+{
+    match fail {
+        LoadFail::StoreFault => Status::StoreFault,
+        LoadFail::NoMemory => Status::NoMemory,
+        LoadFail::BadStore(number) => Status::BadStore(number),
+        LoadFail::AlienStore => Status::AlienStore,
+    }
+}
+
+/// Opens a library over the keeper and answers the lines of the source. The keeper comes back.
+pub fn play<S: Source, W: Sink, K: Keeper, L: Ledger>(
+    alloc: Global,
+    source: &mut S,
+    sink: &mut W,
+    keeper: K,
+    steps: &mut Steps<L>,
+) -> (Status, K)
+    ensures plays { Plays (K.gives keeper) (K.kept keeper) (K.kept result.1) (K.faults keeper) (K.faults result.1)
+        result.0 (S.left source.old) (S.left source.new) (W.taken sink.old) (W.taken sink.new) }
+    ensures done { result.0 ≡ Status.Done → IsAtEnd (S.left source.new) }
+    ensures own { HasOpened result.0 [] → K.alien keeper ≢ Some true }
+    ensures ran { result.0 ≢ Status.Usage }
+    ensures later_read { S.faults source.old ≤ S.faults source.new }
+    ensures later_write { W.faults sink.old ≤ W.faults sink.new }
+    ensures later_store { K.faults keeper ≤ K.faults result.1 }
+    ensures read { result.0 ≡ Status.ReadFault → Rose (S.faults source.old) (S.faults source.new) }
+    ensures write { result.0 ≡ Status.WriteFault → Rose (W.faults sink.old) (W.faults sink.new) }
+    ensures store { result.0 ≡ Status.StoreFault → Rose (K.faults keeper) (K.faults result.1) }
+    ensures bad { (readings : Readings) (n : ℕ) → K.gives keeper ≡ Some readings
+        → result.0 ≡ Status.BadStore n → opened readings ≡ Err n }
+    ensures alien { result.0 ≡ Status.AlienStore → K.alien keeper ≢ Some false }
+{
+    match Library::load(alloc, keeper, steps) {
+        Ok(library) => {
+            let mut session = Session::new(alloc, library);
+            let status = play_session(alloc, &mut session, source, sink, steps);
+            (status, session.library.release())
+        }
+        Err((fail, keeper)) => (status_of(fail), keeper),
     }
 }

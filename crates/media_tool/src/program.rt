@@ -1,11 +1,13 @@
-ghost use Rattle.std.specs.Prelude.{◌≡◌, ◌≢◌, ◌≤◌, ◌↔◌, map, string_bytes, IsTrue};
+ghost use Rattle.std.specs.Prelude.{◌≡◌, ◌≢◌, ◌≤◌, ◌↔◌, ℕ, [], map, string_bytes, IsTrue, true, false, Some, Err};
 ghost use Rattle.std.specs.Io.KnownBytes.{IsAtEnd};
 ghost use Rattle.media_types.specs.Cause.{Rose};
-ghost use Rattle.media_tool.specs.Session.{Plays};
+ghost use Rattle.media_base.specs.Keeping.{Readings};
+ghost use Rattle.library_machine.specs.Changes.{opened};
+ghost use Rattle.media_tool.specs.Session.{HasOpened, Plays};
 ghost use Rattle.media_tool.specs.Words.{play_words};
 
 use crate::play::play;
-use media_base::{Sink, Source, Status, Steps};
+use media_base::{Keeper, Sink, Source, Status, Steps};
 use std::alloc::Global;
 use std::sync::ledger::Ledger;
 
@@ -18,29 +20,41 @@ fn is_play(words: &[String]) -> bool
     }
 }
 
-/// Does what the words ask, without the program's own name: `play -` answers the lines of the source.
-pub fn run<S: Source, W: Sink, L: Ledger>(
+/// Does what the words ask, without the program's own name: `play -` opens a library over the keeper and
+/// answers the lines of the source. The keeper comes back.
+pub fn run<S: Source, W: Sink, K: Keeper, L: Ledger>(
     alloc: Global,
     words: &[String],
     source: &mut S,
     sink: &mut W,
+    keeper: K,
     steps: &mut Steps<L>,
-) -> Status
-    // The sink took what this status promises for the bytes that the source gave.
-    ensures plays { Plays result (S.left source.old) (S.left source.new) (W.taken sink.old) (W.taken sink.new) }
-    ensures done { result ≡ Status.Done → IsAtEnd (S.left source.new) }
+) -> (Status, K)
+    // The sink took, and the keeper keeps, what this status promises for the bytes that the source gave.
+    ensures plays { Plays (K.gives keeper) (K.kept keeper) (K.kept result.1) (K.faults keeper) (K.faults result.1)
+        result.0 (S.left source.old) (S.left source.new) (W.taken sink.old) (W.taken sink.new) }
+    ensures done { result.0 ≡ Status.Done → IsAtEnd (S.left source.new) }
+
+    // Where the library opened, whatever was given then, the keeper's changes are its own.
+    ensures own { HasOpened result.0 [] → K.alien keeper ≢ Some true }
 
     // Each other status has its cause.
-    ensures usage { (result ≡ Status.Usage) ↔ (map string_bytes words.now ≢ play_words) }
-    ensures untouched { result ≡ Status.Usage → (source.new ≡ source.old) × (sink.new ≡ sink.old) }
+    ensures usage { (result.0 ≡ Status.Usage) ↔ (map string_bytes words.now ≢ play_words) }
+    ensures untouched { result.0 ≡ Status.Usage
+        → (source.new ≡ source.old) × (sink.new ≡ sink.old) × (result.1 ≡ keeper) }
     ensures later_read { S.faults source.old ≤ S.faults source.new }
     ensures later_write { W.faults sink.old ≤ W.faults sink.new }
-    ensures read { result ≡ Status.ReadFault → Rose (S.faults source.old) (S.faults source.new) }
-    ensures write { result ≡ Status.WriteFault → Rose (W.faults sink.old) (W.faults sink.new) }
+    ensures later_store { K.faults keeper ≤ K.faults result.1 }
+    ensures read { result.0 ≡ Status.ReadFault → Rose (S.faults source.old) (S.faults source.new) }
+    ensures write { result.0 ≡ Status.WriteFault → Rose (W.faults sink.old) (W.faults sink.new) }
+    ensures store { result.0 ≡ Status.StoreFault → Rose (K.faults keeper) (K.faults result.1) }
+    ensures bad { (readings : Readings) (n : ℕ) → K.gives keeper ≡ Some readings
+        → result.0 ≡ Status.BadStore n → opened readings ≡ Err n }
+    ensures alien { result.0 ≡ Status.AlienStore → K.alien keeper ≢ Some false }
 {
     if is_play(words) {
-        play(alloc, source, sink, steps)
+        play(alloc, source, sink, keeper, steps)
     } else {
-        Status::Usage
+        (Status::Usage, keeper)
     }
 }

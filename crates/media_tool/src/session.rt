@@ -4,14 +4,13 @@ ghost use Rattle.command_text.specs.declared.request.TheConstants.{MAX_LINE};
 ghost use Rattle.media_tool.specs.Feeding.{Fed, FedKept, LineSent, Stopped};
 ghost use Rattle.media_tool.specs.Kept.{Keeps, kept_of};
 ghost use Rattle.media_tool.specs.Lines.{HasNoFeed, with_feed};
-ghost use Rattle.library_machine.specs.Records.{no_records};
-ghost use Rattle.media_tool.specs.Run.{LineAnswered};
+ghost use Rattle.media_tool.specs.Run.{LineAnswered, State, state_of};
 ghost use Rattle.media_tool.specs.Session.{Played};
 
 use crate::lines::split_line;
 use command_text::{MAX_LINE, long_line_laws, read_line, write_reply_line};
 use library_core::Library;
-use media_base::{Caller, Failed, Reply, Sink, Status, Steps};
+use media_base::{Caller, Failed, Keeper, Reply, Sink, Status, Steps};
 use std::alloc::Global;
 use std::sync::ledger::Ledger;
 
@@ -27,20 +26,21 @@ pub enum Stop {
 
 /// A session between two pieces of its input.
 #[derive(Drop)]
-pub struct Session {
-    pub library: Library,
+pub struct Session<K: Keeper> {
+    pub library: Library<K>,
     /// The line that no line feed ended yet, or the front of it where it is too long.
     pub line: Vec<u8>,
 }
 
 // The reply to one line.
-fn reply_to<L: Ledger>(
+fn reply_to<K: Keeper, L: Ledger>(
     alloc: Global,
-    library: &mut Library,
+    library: &mut Library<K>,
     line: &[u8],
     steps: &mut Steps<L>,
 ) -> Reply
-    ensures { LineAnswered library.old line.now result library.new }
+    ensures { LineAnswered (state_of K.kept K.faults library.old) line.now result
+        (state_of K.kept K.faults library.new) }
 {
     match read_line(alloc, line) {
         Ok(command) => library.answer(Caller::Console, &command, steps),
@@ -49,27 +49,28 @@ fn reply_to<L: Ledger>(
 }
 
 // Answers one line.
-fn answer_line<W: Sink, L: Ledger>(
+fn answer_line<W: Sink, K: Keeper, L: Ledger>(
     alloc: Global,
-    library: &mut Library,
+    library: &mut Library<K>,
     line: &[u8],
     sink: &mut W,
     steps: &mut Steps<L>,
 ) -> Result<(), Failed>
     ensures cause { HasCause (W.faults sink.old) (W.faults sink.new) failed result }
-    ensures sent { LineSent library.old line.now library.new (W.taken sink.old) (W.taken sink.new) result }
+    ensures sent { LineSent (state_of K.kept K.faults library.old) line.now (state_of K.kept K.faults library.new)
+        (W.taken sink.old) (W.taken sink.new) result }
 {
     let reply = reply_to(alloc, library, line, steps);
     write_reply_line(&reply, sink)
 }
 
-impl Session {
-    pub fn new(alloc: Global) -> Session
-        ensures library { result.library ≡ no_records }
+impl<K: Keeper> Session<K> {
+    pub fn new(alloc: Global, library: Library<K>) -> Session<K>
+        ensures library { result.library ≡ library }
         ensures line { result.line.items ≡ [] }
     {
         Session {
-            library: Library::new(alloc),
+            library,
             line: Vec::new(alloc),
         }
     }
@@ -87,10 +88,11 @@ impl Session {
         ensures cause { HasCause (W.faults sink.old) (W.faults sink.new) Stop.WriteFault result }
         // Whatever line it keeps these bytes of.
         ensures fed { OnOk result ((line : List ℕ) → Keeps self.old.line.items line
-            → FedKept self.old.library line piece.now self.new.library self.new.line.items
-            (W.taken sink.old) (W.taken sink.new)) }
+            → FedKept (state_of K.kept K.faults self.old.library) line piece.now
+            (state_of K.kept K.faults self.new.library) self.new.line.items (W.taken sink.old) (W.taken sink.new)) }
         ensures stopped { OnErr result ((line : List ℕ) → Keeps self.old.line.items line
-            → Stopped self.old.library line piece.now (W.taken sink.old) (W.taken sink.new)) }
+            → Stopped (state_of K.kept K.faults self.old.library) line piece.now
+            (state_of K.kept K.faults self.new.library) (W.taken sink.old) (W.taken sink.new)) }
     {
         let mut rest = piece;
         while let Some((line, after)) = split_line(rest) {
@@ -115,9 +117,9 @@ impl Session {
         ensures later { W.faults sink.old ≤ W.faults sink.new }
         ensures write { result ≡ Status.WriteFault → Rose (W.faults sink.old) (W.faults sink.new) }
         ensures either { (result ≡ Status.Done) ⊎ (result ≡ Status.WriteFault) }
-        ensures ends { (given : List ℕ) (taken : Option (List ℕ))
-            → FedKept no_records [] given self.old.library self.old.line.items taken (W.taken sink.old)
-            → Played result given taken (W.taken sink.new) }
+        ensures ends { (opening : State) (given : List ℕ) (taken : Option (List ℕ))
+            → FedKept opening [] given (state_of K.kept K.faults self.old.library) self.old.line.items taken (W.taken sink.old)
+            → Played result opening (state_of K.kept K.faults self.new.library) given taken (W.taken sink.new) }
     {
         if self.line.is_empty() {
             return Status::Done;
@@ -158,11 +160,11 @@ impl Session {
         ensures empty { OnOk result (self.new.line.items ≡ []) }
         ensures cause { HasCause (W.faults sink.old) (W.faults sink.new) Stop.WriteFault result }
         ensures fed { OnOk result ((line : List ℕ) → Keeps self.old.line.items line
-            → Fed self.old.library line (with_feed front.now)
-            self.new.library [] (W.taken sink.old) (W.taken sink.new)) }
+            → Fed (state_of K.kept K.faults self.old.library) line (with_feed front.now)
+            (state_of K.kept K.faults self.new.library) [] (W.taken sink.old) (W.taken sink.new)) }
         ensures stopped { OnErr result ((line more : List ℕ) → Keeps self.old.line.items line
-            → Stopped self.old.library line (with_feed front.now ++ more)
-            (W.taken sink.old) (W.taken sink.new)) }
+            → Stopped (state_of K.kept K.faults self.old.library) line (with_feed front.now ++ more)
+            (state_of K.kept K.faults self.new.library) (W.taken sink.old) (W.taken sink.new)) }
     {
         if self.line.is_empty() {
             return match answer_line(alloc, &mut self.library, front, sink, steps) {
@@ -188,7 +190,8 @@ impl Session {
     ) -> Result<(), Failed>
         ensures cause { HasCause (W.faults sink.old) (W.faults sink.new) failed result }
         ensures sent { (line : List ℕ) → self.old.line.items ≡ kept_of line
-            → LineSent self.old.library line self.new.library (W.taken sink.old) (W.taken sink.new) result }
+            → LineSent (state_of K.kept K.faults self.old.library) line (state_of K.kept K.faults self.new.library)
+            (W.taken sink.old) (W.taken sink.new) result }
         ensures empty { OnOk result (self.new.line.items ≡ []) }
         ensures same { OnErr result (self.new.line.items ≡ self.old.line.items) }
     {

@@ -5,6 +5,7 @@ ghost use Rattle.std.specs.Prelude.{◌≡◌, ◌≢◌, ◌<◌, ◌↔◌, ma
 ghost use Rattle.media_tool.specs.Words.{play_words};
 
 use media_base::{Status, Steps};
+use media_keeper::QuietKeeper;
 use media_tool::{StdSink, StdSource, run};
 use std::alloc::{AllocError, Global};
 use std::env::{self, Env};
@@ -26,7 +27,7 @@ fn words_of(rt: &(impl Env + AllocGlobal)) -> Result<Vec<String>, Status> {
     }
 }
 
-// Runs the words from the reader to the writer, with a counter of its own.
+// Runs the words from the reader to the writer, with a counter of its own. Nothing is kept beyond the session.
 fn run_counted<R: Read + Drop, W: Write + Drop, L: Ledger>(
     rt: &impl Threads,
     alloc: Global,
@@ -43,7 +44,9 @@ fn run_counted<R: Read + Drop, W: Write + Drop, L: Ledger>(
     let mut source = StdSource::new(reader);
     let mut sink = StdSink::new(writer);
     let mut steps = Steps::<L>::new(rt, blank);
-    run(alloc, words, &mut source, &mut sink, &mut steps)
+    let keeper = QuietKeeper::new();
+    let (status, _keeper) = run(alloc, words, &mut source, &mut sink, keeper, &mut steps);
+    status
 }
 
 fn main(rt: HostRuntime) -> ExitCode {

@@ -5,9 +5,9 @@ use Rattle.media_tool.proofs.Feeds.{ended_front}
 use Rattle.media_tool.proofs.laws.ended_lines_are_a_front.Goals as goal
 
 pub returns-clause-read_fault : goal.returns-clause-read_fault
-returns-clause-read_fault c = λ given old new ended.
-    subst (λ (bytes : List ℕ). AnswersFront bytes old new) (append-nil given) (ended_front given [] old new ended)
+returns-clause-read_fault c = λ opening after given old new ended.
+    subst (λ (bytes : List ℕ). AnswersFront opening after bytes old new) (append-nil given) (ended_front opening after given [] old new ended)
 
 pub returns-clause-too_long : goal.returns-clause-too_long
-returns-clause-too_long c = λ given old new within.
-    subst (λ (bytes : List ℕ). AnswersFront bytes old new) (sym within.split) (ended_front within.front within.more old new within.answers)
+returns-clause-too_long c = λ opening after given old new within.
+    subst (λ (bytes : List ℕ). AnswersFront opening after bytes old new) (sym within.split) (ended_front opening after within.front within.more old new within.answers)
