@@ -71,6 +71,8 @@ impl<K: Keeper> Library<K> {
     {
         library_machine::refusals_change_nothing();
         library_machine::changes_are_kept();
+        library_machine::steps_never_lack();
+        library_machine::records_stay_fit();
         let Caller::Console = caller;
         match self.tables.plan(command, steps) {
             Ok(Prepared::Told(reply)) => reply,
@@ -96,6 +98,7 @@ impl<K: Keeper> Library<K> {
 
     /// Hands the keeper back.
     pub fn release(self) -> K
+        ensures fits { Fits self.records }
         ensures keeper { result ≡ self.keeper }
         ensures own { K.alien result ≢ Some true }
         ensures opens { (readings : Readings) → K.kept result ≡ Some readings
