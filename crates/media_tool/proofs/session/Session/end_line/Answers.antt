@@ -1,7 +1,8 @@
 use Rattle.std.proofs.Common.{◌≡◌, ◌≢◌, List, ℕ, [], ◌++◌, refl, sym, ap, subst}
-use Rattle.library_machine.specs.Records.{Records}
+use Rattle.library_core.specs.Keeping.{LibraryView}
 use Rattle.media_tool.specs.Feeding.{Fed, Stopped}
 use Rattle.media_tool.specs.Lines.{with_feed}
+use Rattle.media_tool.specs.Run.{State, state_of}
 use Rattle.media_tool.proofs.Cuts.{AllByRecursion-append}
 use Rattle.media_tool.proofs.Feeds.{sent_fed, sent_stopped, stopped_here}
 use Rattle.media_tool.proofs.Kept.{nil_from_test, nil_of_keeps, keeps_more}
@@ -9,26 +10,29 @@ use Rattle.media_tool.proofs.session.Session.end_line.Goals as goal
 
 pub returns-in-Ok-clause-fed : goal.returns-in-Ok-clause-fed
 returns-in-Ok-clause-fed g c = λ line keeps.
+    let state = state_of g.K.Keeper.kept g.K.Keeper.faults in
     let t = g.W.Sink.taken c.args.sink.now in
     let u = g.W.Sink.taken c.answer_line.new.sink in
     let old = c.args.self.now in
     let front = c.args.front.now in
     let nil = nil_of_keeps old.line.items line (nil_from_test old.line.items _ _ old.line.ok.0 c.is_empty.ensures c.if-is_empty.true) keeps.front in
     let whole : front ≡ line ++ front = ap (λ (bytes : List ℕ). bytes ++ front) (sym nil) in
-    sent_fed old.library c.answer_line.new.library line front front t u whole (AllByRecursion-append (λ byte. byte ≢ 10) line front keeps.unfinished c.requires.no_feed) c.in-Ok.ensures.sent
+    sent_fed (state old.library) (state c.answer_line.new.library) line front front t u whole (AllByRecursion-append (λ byte. byte ≢ 10) line front keeps.unfinished c.requires.no_feed) c.in-Ok.ensures.sent
 
 pub returns-in-Err-clause-stopped : goal.returns-in-Err-clause-stopped
 returns-in-Err-clause-stopped g c = λ line more keeps.
+    let state = state_of g.K.Keeper.kept g.K.Keeper.faults in
     let t = g.W.Sink.taken c.args.sink.now in
     let u = g.W.Sink.taken c.answer_line.new.sink in
     let old = c.args.self.now in
     let front = c.args.front.now in
     let nil = nil_of_keeps old.line.items line (nil_from_test old.line.items _ _ old.line.ok.0 c.is_empty.ensures c.if-is_empty.true) keeps.front in
     let whole : front ≡ line ++ front = ap (λ (bytes : List ℕ). bytes ++ front) (sym nil) in
-    sent_stopped old.library c.answer_line.new.library line front front more t u whole (AllByRecursion-append (λ byte. byte ≢ 10) line front keeps.unfinished c.requires.no_feed) c.in-Err.ensures.sent
+    sent_stopped (state old.library) (state c.answer_line.new.library) line front front more t u whole (AllByRecursion-append (λ byte. byte ≢ 10) line front keeps.unfinished c.requires.no_feed) c.in-Err.ensures.sent
 
 pub returns-in-Ok-answer_kept-clause-fed : goal.returns-in-Ok-answer_kept-clause-fed
 returns-in-Ok-answer_kept-clause-fed g c = λ line keeps.
+    let state = state_of g.K.Keeper.kept g.K.Keeper.faults in
     let t = g.W.Sink.taken c.args.sink.now in
     let u = g.W.Sink.taken c.answer_kept.new.sink in
     let old = c.args.self.now in
@@ -36,11 +40,12 @@ returns-in-Ok-answer_kept-clause-fed g c = λ line keeps.
     let kept = c.keep.new.self in
     let new = c.answer_kept.new.self in
     let whole = keeps_more old.line.items kept.line.items line front keeps c.requires.no_feed c.in-Ok-keep.ensures.kept in
-    subst (λ (r : Records). Fed r line (with_feed front) new.library [] t u) c.in-Ok-keep.ensures.library
-    (sent_fed kept.library new.library line front (line ++ front) t u refl whole.unfinished (c.in-Ok-answer_kept.ensures.sent (line ++ front) whole.front))
+    subst (λ (s : State). Fed s line (with_feed front) (state new.library) [] t u) (ap state c.in-Ok-keep.ensures.library)
+    (sent_fed (state kept.library) (state new.library) line front (line ++ front) t u refl whole.unfinished (c.in-Ok-answer_kept.ensures.sent (line ++ front) whole.front))
 
 pub returns-in-Err-answer_kept-clause-stopped : goal.returns-in-Err-answer_kept-clause-stopped
 returns-in-Err-answer_kept-clause-stopped g c = λ line more keeps.
+    let state = state_of g.K.Keeper.kept g.K.Keeper.faults in
     let t = g.W.Sink.taken c.args.sink.now in
     let u = g.W.Sink.taken c.answer_kept.new.sink in
     let old = c.args.self.now in
@@ -48,8 +53,13 @@ returns-in-Err-answer_kept-clause-stopped g c = λ line more keeps.
     let kept = c.keep.new.self in
     let new = c.answer_kept.new.self in
     let whole = keeps_more old.line.items kept.line.items line front keeps c.requires.no_feed c.in-Ok-keep.ensures.kept in
-    subst (λ (r : Records). Stopped r line (with_feed front ++ more) t u) c.in-Ok-keep.ensures.library
-    (sent_stopped kept.library new.library line front (line ++ front) more t u refl whole.unfinished (c.in-Err-answer_kept.ensures.sent (line ++ front) whole.front))
+    subst (λ (s : State). Stopped s line (with_feed front ++ more) (state new.library) t u) (ap state c.in-Ok-keep.ensures.library)
+    (sent_stopped (state kept.library) (state new.library) line front (line ++ front) more t u refl whole.unfinished (c.in-Err-answer_kept.ensures.sent (line ++ front) whole.front))
 
 pub returns-in-Err-keep-clause-stopped : goal.returns-in-Err-keep-clause-stopped
-returns-in-Err-keep-clause-stopped g c = λ line more keeps. stopped_here c.args.self.now.library line (with_feed c.args.front.now ++ more) (g.W.Sink.taken c.args.sink.now)
+returns-in-Err-keep-clause-stopped g c = λ line more keeps.
+    let state = state_of g.K.Keeper.kept g.K.Keeper.faults in
+    let old = state c.args.self.now.library in
+    let now = g.W.Sink.taken c.args.sink.now in
+    let bytes = with_feed c.args.front.now ++ more in
+    subst (λ (s : State). Stopped old line bytes s now now) (ap state (sym c.keep.ensures.library)) (stopped_here old line bytes now)
