@@ -1,11 +1,14 @@
 -- What is kept opens the records, also after one more change.
-use Rattle.std.proofs.Common.{◌≡◌, ℕ, ◌+◌, List, [], ◌∷◌, ◌++◌, Option, Some, None, option_map, Result, Ok, Err, refl, ap, subst, sym, ◌∙◌}
+use Rattle.std.proofs.Common.{◌≡◌, ◌<◌, ◌≤◌, ℕ, suc, ◌+◌, List, [], ◌∷◌, ◌++◌, length, drop, get_or, slice_get, arith, Option, Some, None, option_map, Result, Ok, Err, refl, ap, subst, sym, ◌∙◌}
 use Rattle.std.specs.Option.{option_map_or}
-use Rattle.std.proofs.lemmas.Option.{same_Some}
+use Rattle.std.proofs.lemmas.Option.{same_Some, slice_get_within, get_or_from_slice_get, slice_get-get_or}
+use Rattle.std.proofs.Math.ListN.{drop_of_length-le}
+use Rattle.std.proofs.Math.Seq.{drop-cons}
 use Rattle.media_base.specs.declared.change.Change.{Change}
 use Rattle.media_base.specs.Keeping.{Readings, with_change}
 use Rattle.library_machine.specs.Changes.{after_change, after_reading, opened, opened_from}
 use Rattle.library_machine.specs.Records.{Records, no_records}
+use Rattle.library_core.specs.declared.load_fail.LoadFail.TheVariants as fails
 
 next_more : (n : ℕ) (found : Option Records) (readings : Readings) (r after : Records) (change : Change) →
     ((a : Records) → opened_from (n + 1) a readings ≡ Ok r → opened_from (n + 1) a (with_change change readings) ≡ Ok after) →
@@ -34,3 +37,38 @@ opens_more old new r after change is leads opens readings e =
     let p = mapped_some (with_change change) old readings (sym is ∙ e) in
     subst (λ (all : Readings). opened all ≡ Ok after) p.2
     (opened_from_more 0 no_records p.0 r after change leads (opens p.0 p.1))
+
+-- ---- one reading after the other
+
+-- the readings from one place on, where there is one at it
+dropped_here : (readings : Readings) (n : ℕ) (reading : Option Change) → slice_get readings n ≡ Some reading → drop n readings ≡ reading ∷ drop (n + 1) readings
+dropped_here readings n reading there =
+    let within = slice_get_within readings n reading there in
+    let same : suc n ≡ n + 1 = omega arith in
+    drop-cons readings n reading within
+    ∙ ap (λ (first : Option Change). first ∷ drop (suc n) readings) (get_or_from_slice_get readings n reading reading there)
+    ∙ ap (λ (m : ℕ). reading ∷ drop m readings) same
+
+pub opened_step : (n : ℕ) (r after : Records) (readings : Readings) (reading : Option Change) →
+    slice_get readings n ≡ Some reading → after_reading r reading ≡ Some after →
+    opened_from n r (drop n readings) ≡ opened_from (n + 1) after (drop (n + 1) readings)
+opened_step n r after readings reading there leads =
+    ap (opened_from n r) (dropped_here readings n reading there)
+    ∙ ap (λ (found : Option Records). option_map_or (λ a. opened_from (n + 1) a (drop (n + 1) readings)) found (Err n)) leads
+
+pub opened_bad : (n : ℕ) (r : Records) (readings : Readings) (reading : Option Change) →
+    slice_get readings n ≡ Some reading → after_reading r reading ≡ None →
+    opened_from n r (drop n readings) ≡ Err n
+opened_bad n r readings reading there leads =
+    ap (opened_from n r) (dropped_here readings n reading there)
+    ∙ ap (λ (found : Option Records). option_map_or (λ a. opened_from (n + 1) a (drop (n + 1) readings)) found (Err n)) leads
+
+pub opened_end : (n : ℕ) (r : Records) (readings : Readings) → length readings ≤ n → opened_from n r (drop n readings) ≡ Ok r
+opened_end n r readings le = ap (opened_from n r) (drop_of_length-le readings le)
+
+-- there is a reading at each place before the end
+pub reading_at : (readings : Readings) (n : ℕ) → n < length readings → (reading : Option Change) × (slice_get readings n ≡ Some reading)
+reading_at readings n lt = (get_or readings n None, slice_get-get_or readings n None lt)
+
+pub same_number : (m n : ℕ) → fails.BadStore m ≡ fails.BadStore n → m ≡ n
+same_number m n e = cc e

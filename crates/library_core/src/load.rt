@@ -124,4 +124,22 @@ impl<K: Keeper> Library<K> {
         }
         Ok(Library { tables, keeper })
     }
+
+    /// Hands the keeper back and opens the library again: the records are the same, or a fault has its cause.
+    pub fn reopen<L: Ledger>(
+        self,
+        alloc: Global,
+        steps: &mut Steps<L>,
+    ) -> Result<Library<K>, (LoadFail, K)>
+        ensures same { (readings : Readings) → K.kept self.keeper ≡ Some readings
+            → IfOk result (λ library. library.records ≡ self.records) }
+        ensures never_bad { (readings : Readings) → K.kept self.keeper ≡ Some readings
+            → IfErr result (λ fail. (n : ℕ) → fail.0 ≢ LoadFail.BadStore n) }
+        ensures never_alien { (readings : Readings) → K.kept self.keeper ≡ Some readings
+            → IfErr result (λ fail. fail.0 ≢ LoadFail.AlienStore) }
+        ensures store { IfErr result (λ fail. fail.0 ≡ LoadFail.StoreFault
+            → Rose (K.faults self.keeper) (K.faults fail.1)) }
+    {
+        Library::load(alloc, self.release(), steps)
+    }
 }
