@@ -1,20 +1,23 @@
 -- A session over the pieces that its source gives.
-use Rattle.std.proofs.Common.{◌≡◌, ◌⊎◌, ℕ, ◌+◌, ◌-◌, ◌<◌, ◌≤◌, List, [], ◌++◌, length, take, Option, refl, sym, subst, ⊎_elim, arith}
+use Rattle.std.proofs.Common.{◌≡◌, ◌⊎◌, ℕ, ◌+◌, ◌-◌, ◌<◌, ◌≤◌, List, [], ◌++◌, length, take, Option, refl, sym, ap, subst, ⊎_elim, arith}
 use Rattle.std.specs.Prelude.{◌↔◌}
 use Rattle.std.proofs.lemmas.List.{length-append, length-take-le, append-nil}
+use Rattle.media_base.specs.Keeping.{Readings}
 use Rattle.media_base.specs.Transfer.{Gave, GaveFront}
 use Rattle.media_base.specs.TransferLaws.{gave_none, gave_more}
 use Rattle.media_base.specs.declared.status.Status.{Status}
 use Rattle.media_base.specs.declared.status.Status.TheVariants as statuses
+use Rattle.library_machine.specs.Records.{no_records}
 use Rattle.media_tool.specs.Feeding.{Fed, FedKept, Stopped}
 use Rattle.media_tool.specs.Kept.{Keeps}
 use Rattle.media_tool.specs.Run.{State}
 use Rattle.library_core.specs.declared.load_fail.LoadFail.{LoadFail}
 use Rattle.library_core.specs.declared.load_fail.LoadFail.TheVariants as fails
-use Rattle.media_tool.specs.Session.{AnswersNothing, Played, PlaysFrom, load_status}
+use Rattle.media_tool.specs.Session.{AnswersNothing, HasOpened, Played, Plays, PlaysFrom, load_status}
 use Rattle.media_tool.specs.declared.play.TheConstants.{MAX_INPUT}
 use Rattle.media_tool.proofs.Feeds.{fed_nothing, fed_more, ends_early, ends_stopped, stopped_after, stopped_here}
 use Rattle.media_tool.proofs.Kept.{keeps_nothing}
+use Rattle.media_tool.proofs.Runs.{run_later}
 
 -- These bytes were given so far and fed, so that these bytes are kept, and so many may still come.
 pub record PlayedSoFar (o : State) (room : ℕ) (m : State) (kept : List ℕ) (left now t u : Option (List ℕ)) : Type 0 where
@@ -110,24 +113,60 @@ plays_nothing o left taken = record {
   played = ends_stopped o o [] taken taken (stopped_here o [] [] taken);
 }
 
+same_later : (o s : State) → s ≡ o → o.faults ≤ s.faults
+same_later o s same = let e : s.faults ≡ o.faults = ap (λ (one : State). one.faults) same in omega arith
+
+-- a session never counts the keeper's faults down
+played_later : (status : Status) (o s : State) (given : List ℕ) (t u : Option (List ℕ)) → Played status o s given t u → o.faults ≤ s.faults
+played_later statuses.Done o s given t u p = run_later o s _ p.replies p.run
+played_later statuses.ReadFault o s given t u p = run_later o s _ p.replies p.run
+played_later statuses.WriteFault o s given t u p = run_later o s _ p.replies p.run
+played_later statuses.NoMemory o s given t u p = run_later o s _ p.replies p.run
+played_later statuses.InputTooLong o s given t u p = run_later o s _ p.answers.replies p.answers.run
+played_later statuses.Usage o s given t u p = same_later o s p.same
+played_later statuses.StoreFault o s given t u p = same_later o s p.same
+played_later (statuses.BadStore n) o s given t u p = same_later o s p.same
+played_later statuses.AlienStore o s given t u p = same_later o s p.same
+
+pub plays_later : (status : Status) (o s : State) (left next t u : Option (List ℕ)) → PlaysFrom o s status left next t u → o.faults ≤ s.faults
+plays_later status o s left next t u p = played_later status o s p.given t u p.played
+
+-- ---- a library that didn't open
+
+-- a state that stays as it is
+abbrev pub at_rest : Option Readings → ℕ → State
+at_rest kept faults = record { records = no_records; kept = kept; faults = faults }
+
 nothing : (o : State) (taken : Option (List ℕ)) → AnswersNothing o o [] taken taken
 nothing o taken = record { none = refl; same = refl; took = refl }
 
--- at a status that says that it didn't come to playing
-never_played : (status : Status) (o : State) (left taken : Option (List ℕ)) → (status ≡ statuses.InputTooLong → ⊥) → Played status o o [] taken taken → PlaysFrom o o status left left taken taken
-never_played status o left taken other played = record {
-  given = [];
-  gave = gave_none left;
-  limit = within_limit status [] other (omega arith);
-  played = played;
+-- nothing was given, answered or taken
+never_opened : (status : Status) (gives kept_old kept_new : Option Readings) (faults_old faults_new : ℕ) (left taken : Option (List ℕ)) → (status ≡ statuses.InputTooLong → ⊥) → (HasOpened status [] → ⊥)
+    → Played status (at_rest kept_old faults_old) (at_rest kept_old faults_old) [] taken taken → kept_new ≡ kept_old → faults_old ≤ faults_new → Plays gives kept_old kept_new faults_old faults_new status left left taken taken
+never_opened status gives kept_old kept_new faults_old faults_new left taken other unopened played same later = record {
+  opening = at_rest kept_old faults_old;
+  after = at_rest kept_old faults_old;
+  session = record { given = []; gave = gave_none left; limit = within_limit status [] other (omega arith); played = played };
+  opens = λ opened. absurd (unopened opened);
+  reopens = λ opened. absurd (unopened opened);
+  kept_first = refl;
+  kept_last = same;
+  faults_first = omega arith;
+  faults_last = later;
 }
 
-pub plays_usage : (o : State) (left taken : Option (List ℕ)) → PlaysFrom o o statuses.Usage left left taken taken
-plays_usage o left taken = never_played statuses.Usage o left taken (λ is. cc) (nothing o taken)
+pub plays_usage : (gives kept : Option Readings) (faults : ℕ) (left taken : Option (List ℕ)) → Plays gives kept kept faults faults statuses.Usage left left taken taken
+plays_usage gives kept faults left taken =
+    never_opened statuses.Usage gives kept kept faults faults left taken (λ is. cc) (λ opened. opened) (nothing (at_rest kept faults) taken) refl (omega arith)
 
--- a library that didn't open
-pub plays_unopened : (fail : LoadFail) (o : State) (left taken : Option (List ℕ)) → PlaysFrom o o (load_status fail) left left taken taken
-plays_unopened fails.StoreFault o left taken = never_played statuses.StoreFault o left taken (λ is. cc) (nothing o taken)
-plays_unopened fails.NoMemory o left taken = plays_nothing o left taken
-plays_unopened (fails.BadStore n) o left taken = never_played (statuses.BadStore n) o left taken (λ is. cc) (nothing o taken)
-plays_unopened fails.AlienStore o left taken = never_played statuses.AlienStore o left taken (λ is. cc) (nothing o taken)
+pub plays_unopened : (fail : LoadFail) (gives kept_old kept_new : Option Readings) (faults_old faults_new : ℕ) (left taken : Option (List ℕ)) → kept_new ≡ kept_old → faults_old ≤ faults_new
+    → Plays gives kept_old kept_new faults_old faults_new (load_status fail) left left taken taken
+plays_unopened fails.StoreFault gives kept_old kept_new faults_old faults_new left taken same later =
+    never_opened statuses.StoreFault gives kept_old kept_new faults_old faults_new left taken (λ is. cc) (λ opened. opened) (nothing (at_rest kept_old faults_old) taken) same later
+plays_unopened fails.NoMemory gives kept_old kept_new faults_old faults_new left taken same later =
+    let o = at_rest kept_old faults_old in
+    never_opened statuses.NoMemory gives kept_old kept_new faults_old faults_new left taken (λ is. cc) (λ opened. opened refl) (ends_stopped o o [] taken taken (stopped_here o [] [] taken)) same later
+plays_unopened (fails.BadStore n) gives kept_old kept_new faults_old faults_new left taken same later =
+    never_opened (statuses.BadStore n) gives kept_old kept_new faults_old faults_new left taken (λ is. cc) (λ opened. opened) (nothing (at_rest kept_old faults_old) taken) same later
+plays_unopened fails.AlienStore gives kept_old kept_new faults_old faults_new left taken same later =
+    never_opened statuses.AlienStore gives kept_old kept_new faults_old faults_new left taken (λ is. cc) (λ opened. opened) (nothing (at_rest kept_old faults_old) taken) same later

@@ -1,5 +1,6 @@
 -- Runs of lines, one after the other.
 use Rattle.std.proofs.Common.{◌≡◌, ◌⊎◌, ℕ, ◌+◌, ◌-◌, ◌^◌, ◌≤◌, min, Bool, true, false, cond, List, [], ◌∷◌, ◌++◌, Ok, Err, refl, ap, subst, map, inl, inr, arith}
+use Rattle.std.proofs.lemmas.List.Sums.{sum_by-cons}
 use Rattle.media_types.specs.Cause.{Rose}
 use Rattle.media_base.specs.declared.command.Command.{Command}
 use Rattle.media_base.specs.declared.refusal.Refusal.{Refusal}
@@ -72,7 +73,7 @@ run_counts never s t (line ∷ lines) (reply ∷ given) p =
     let first = counted_by_test (is_not_kept reply) s.faults p.0.faults (answered_later s p.0 line reply p.1)
         (λ is. answered_rose never s p.0 line reply p.1 (not_kept_reply reply is)) in
     let others = run_counts never p.0 t lines given p.2 in
-    let both : count_not_kept (reply ∷ given) ≡ cond (is_not_kept reply) 1 0 + count_not_kept given = refl in
+    let both : count_not_kept (reply ∷ given) ≡ cond (is_not_kept reply) 1 0 + count_not_kept given = sum_by-cons (λ (one : Reply). cond (is_not_kept one) 1 0) reply given in
     omega (arith, first, others)
 run_counts never s t [] (reply ∷ given) p = absurd p
 run_counts never s t (line ∷ lines) [] p = absurd p
