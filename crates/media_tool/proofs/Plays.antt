@@ -1,5 +1,5 @@
 -- A session over the pieces that its source gives.
-use Rattle.std.proofs.Common.{◌≡◌, ◌⊎◌, ℕ, ◌+◌, ◌-◌, ◌<◌, ◌≤◌, List, [], ◌++◌, length, take, Option, refl, sym, ap, subst, ⊎_elim, arith}
+use Rattle.std.proofs.Common.{◌≡◌, ◌⊎◌, ℕ, ◌+◌, ◌-◌, ◌<◌, ◌≤◌, List, [], ◌++◌, length, take, Bool, Option, refl, sym, ap, subst, ⊎_elim, arith}
 use Rattle.std.specs.Prelude.{◌↔◌}
 use Rattle.std.proofs.lemmas.List.{length-append, length-take-le, append-nil}
 use Rattle.media_base.specs.Keeping.{Readings}
@@ -141,12 +141,13 @@ nothing : (o : State) (taken : Option (List ℕ)) → AnswersNothing o o [] take
 nothing o taken = record { none = refl; same = refl; took = refl }
 
 -- nothing was given, answered or taken
-never_opened : (status : Status) (gives kept_old kept_new : Option Readings) (faults_old faults_new : ℕ) (left taken : Option (List ℕ)) → (status ≡ statuses.InputTooLong → ⊥) → (HasOpened status [] → ⊥)
-    → Played status (at_rest kept_old faults_old) (at_rest kept_old faults_old) [] taken taken → kept_new ≡ kept_old → faults_old ≤ faults_new → Plays gives kept_old kept_new faults_old faults_new status left left taken taken
-never_opened status gives kept_old kept_new faults_old faults_new left taken other unopened played same later = record {
+never_opened : (status : Status) (alien : Option Bool) (gives kept_old kept_new : Option Readings) (faults_old faults_new : ℕ) (left taken : Option (List ℕ)) → (status ≡ statuses.InputTooLong → ⊥) → (HasOpened status [] → ⊥)
+    → Played status (at_rest kept_old faults_old) (at_rest kept_old faults_old) [] taken taken → kept_new ≡ kept_old → faults_old ≤ faults_new → Plays alien gives kept_old kept_new faults_old faults_new status left left taken taken
+never_opened status alien gives kept_old kept_new faults_old faults_new left taken other unopened played same later = record {
   opening = at_rest kept_old faults_old;
   after = at_rest kept_old faults_old;
   session = record { given = []; gave = gave_none left; limit = within_limit status [] other (omega arith); played = played };
+  own = λ opened. absurd (unopened opened);
   opens = λ opened. absurd (unopened opened);
   reopens = λ opened. absurd (unopened opened);
   kept_first = refl;
@@ -155,18 +156,18 @@ never_opened status gives kept_old kept_new faults_old faults_new left taken oth
   faults_last = later;
 }
 
-pub plays_usage : (gives kept : Option Readings) (faults : ℕ) (left taken : Option (List ℕ)) → Plays gives kept kept faults faults statuses.Usage left left taken taken
-plays_usage gives kept faults left taken =
-    never_opened statuses.Usage gives kept kept faults faults left taken (λ is. cc) (λ opened. opened) (nothing (at_rest kept faults) taken) refl (omega arith)
+pub plays_usage : (alien : Option Bool) (gives kept : Option Readings) (faults : ℕ) (left taken : Option (List ℕ)) → Plays alien gives kept kept faults faults statuses.Usage left left taken taken
+plays_usage alien gives kept faults left taken =
+    never_opened statuses.Usage alien gives kept kept faults faults left taken (λ is. cc) (λ opened. opened) (nothing (at_rest kept faults) taken) refl (omega arith)
 
-pub plays_unopened : (fail : LoadFail) (gives kept_old kept_new : Option Readings) (faults_old faults_new : ℕ) (left taken : Option (List ℕ)) → kept_new ≡ kept_old → faults_old ≤ faults_new
-    → Plays gives kept_old kept_new faults_old faults_new (load_status fail) left left taken taken
-plays_unopened fails.StoreFault gives kept_old kept_new faults_old faults_new left taken same later =
-    never_opened statuses.StoreFault gives kept_old kept_new faults_old faults_new left taken (λ is. cc) (λ opened. opened) (nothing (at_rest kept_old faults_old) taken) same later
-plays_unopened fails.NoMemory gives kept_old kept_new faults_old faults_new left taken same later =
+pub plays_unopened : (fail : LoadFail) (alien : Option Bool) (gives kept_old kept_new : Option Readings) (faults_old faults_new : ℕ) (left taken : Option (List ℕ)) → kept_new ≡ kept_old → faults_old ≤ faults_new
+    → Plays alien gives kept_old kept_new faults_old faults_new (load_status fail) left left taken taken
+plays_unopened fails.StoreFault alien gives kept_old kept_new faults_old faults_new left taken same later =
+    never_opened statuses.StoreFault alien gives kept_old kept_new faults_old faults_new left taken (λ is. cc) (λ opened. opened) (nothing (at_rest kept_old faults_old) taken) same later
+plays_unopened fails.NoMemory alien gives kept_old kept_new faults_old faults_new left taken same later =
     let o = at_rest kept_old faults_old in
-    never_opened statuses.NoMemory gives kept_old kept_new faults_old faults_new left taken (λ is. cc) (λ opened. opened refl) (ends_stopped o o [] taken taken (stopped_here o [] [] taken)) same later
-plays_unopened (fails.BadStore n) gives kept_old kept_new faults_old faults_new left taken same later =
-    never_opened (statuses.BadStore n) gives kept_old kept_new faults_old faults_new left taken (λ is. cc) (λ opened. opened) (nothing (at_rest kept_old faults_old) taken) same later
-plays_unopened fails.AlienStore gives kept_old kept_new faults_old faults_new left taken same later =
-    never_opened statuses.AlienStore gives kept_old kept_new faults_old faults_new left taken (λ is. cc) (λ opened. opened) (nothing (at_rest kept_old faults_old) taken) same later
+    never_opened statuses.NoMemory alien gives kept_old kept_new faults_old faults_new left taken (λ is. cc) (λ opened. opened refl) (ends_stopped o o [] taken taken (stopped_here o [] [] taken)) same later
+plays_unopened (fails.BadStore n) alien gives kept_old kept_new faults_old faults_new left taken same later =
+    never_opened (statuses.BadStore n) alien gives kept_old kept_new faults_old faults_new left taken (λ is. cc) (λ opened. opened) (nothing (at_rest kept_old faults_old) taken) same later
+plays_unopened fails.AlienStore alien gives kept_old kept_new faults_old faults_new left taken same later =
+    never_opened statuses.AlienStore alien gives kept_old kept_new faults_old faults_new left taken (λ is. cc) (λ opened. opened) (nothing (at_rest kept_old faults_old) taken) same later

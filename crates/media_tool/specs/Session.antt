@@ -1,5 +1,5 @@
 -- What a whole session writes and keeps for the bytes that it was given.
-use Rattle.std.specs.Prelude.{◌≡◌, ◌≢◌, ℕ, ◌<◌, ◌≤◌, ◌↔◌, List, [], ◌++◌, length, Option, Some, Ok}
+use Rattle.std.specs.Prelude.{◌≡◌, ◌≢◌, ℕ, ◌<◌, ◌≤◌, ◌↔◌, Bool, true, List, [], ◌++◌, length, Option, Some, Ok}
 use Rattle.media_base.specs.Keeping.{Readings}
 use Rattle.media_base.specs.Transfer.{Gave, Took, TookFront}
 use Rattle.media_base.specs.declared.reply.Reply.{Reply}
@@ -81,12 +81,13 @@ abbrev pub HasOpened : Status → List ℕ → Type 0
 HasOpened statuses.NoMemory given = given ≢ []
 HasOpened status given = HasRun status
 
--- A session over a keeper. It begins with the records that the keeper's changes open, and the keeper then
--- keeps what the replies say: so its changes open the records at the end of the session.
-pub record Plays (gives kept_old kept_new : Option Readings) (faults_old faults_new : ℕ) (status : Status) (left_old left_new taken_old taken_new : Option (List ℕ)) : Type 0 where
+-- A session over a keeper. Where the library opens, it begins with the records that the keeper's changes open,
+-- and the keeper then keeps what the replies say: its changes open the records that the session ends with.
+pub record Plays (alien : Option Bool) (gives kept_old kept_new : Option Readings) (faults_old faults_new : ℕ) (status : Status) (left_old left_new taken_old taken_new : Option (List ℕ)) : Type 0 where
   pub opening : State
   pub after : State
   pub session : PlaysFrom opening after status left_old left_new taken_old taken_new
+  pub own : HasOpened status session.given → alien ≢ Some true
   pub opens : HasOpened status session.given → (readings : Readings) → gives ≡ Some readings → opened readings ≡ Ok opening.records
   pub reopens : HasOpened status session.given → (readings : Readings) → kept_new ≡ Some readings → opened readings ≡ Ok after.records
   pub kept_first : opening.kept ≡ kept_old

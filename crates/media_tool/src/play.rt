@@ -1,11 +1,11 @@
-ghost use Rattle.std.specs.Prelude.{◌≡◌, ◌≢◌, ◌<◌, ◌≤◌, ℕ, [], length, true, false, Some, Err, IfOk, MatchResult};
+ghost use Rattle.std.specs.Prelude.{◌≡◌, ◌≢◌, ◌<◌, ◌≤◌, ℕ, [], length, false, Some, Err, IfOk, MatchResult};
 ghost use Rattle.std.specs.Io.KnownBytes.{IsAtEnd};
 ghost use Rattle.library_machine.specs.Changes.{opened};
 ghost use Rattle.media_types.specs.Cause.{HasCause, Rose, failed};
 ghost use Rattle.media_base.specs.Keeping.{Readings};
 ghost use Rattle.media_base.specs.Transfer.{GaveFront};
 ghost use Rattle.media_tool.specs.Run.{state_of};
-ghost use Rattle.media_tool.specs.Session.{HasOpened, HasRun, Plays, PlaysFrom, load_status};
+ghost use Rattle.media_tool.specs.Session.{HasRun, Plays, PlaysFrom, load_status};
 ghost use Rattle.media_tool.specs.declared.play.TheConstants.{PIECE};
 
 use crate::session::{Session, Stop};
@@ -118,10 +118,9 @@ pub fn play<S: Source, W: Sink, K: Keeper, L: Ledger>(
     keeper: K,
     steps: &mut Steps<L>,
 ) -> (Status, K)
-    ensures plays { Plays (K.gives keeper) (K.kept keeper) (K.kept result.1) (K.faults keeper) (K.faults result.1)
-        result.0 (S.left source.old) (S.left source.new) (W.taken sink.old) (W.taken sink.new) }
+    ensures plays { Plays (K.alien keeper) (K.gives keeper) (K.kept keeper) (K.kept result.1)
+        (K.faults keeper) (K.faults result.1) result.0 (S.left source.old) (S.left source.new) (W.taken sink.old) (W.taken sink.new) }
     ensures done { result.0 ≡ Status.Done → IsAtEnd (S.left source.new) }
-    ensures own { HasOpened result.0 [] → K.alien keeper ≢ Some true }
     ensures ran { result.0 ≢ Status.Usage }
     ensures later_read { S.faults source.old ≤ S.faults source.new }
     ensures later_write { W.faults sink.old ≤ W.faults sink.new }

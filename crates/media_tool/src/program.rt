@@ -1,9 +1,9 @@
-ghost use Rattle.std.specs.Prelude.{◌≡◌, ◌≢◌, ◌≤◌, ◌↔◌, ℕ, [], map, string_bytes, IsTrue, true, false, Some, Err};
+ghost use Rattle.std.specs.Prelude.{◌≡◌, ◌≢◌, ◌≤◌, ◌↔◌, ℕ, map, string_bytes, IsTrue, false, Some, Err};
 ghost use Rattle.std.specs.Io.KnownBytes.{IsAtEnd};
 ghost use Rattle.media_types.specs.Cause.{Rose};
 ghost use Rattle.media_base.specs.Keeping.{Readings};
 ghost use Rattle.library_machine.specs.Changes.{opened};
-ghost use Rattle.media_tool.specs.Session.{HasOpened, Plays};
+ghost use Rattle.media_tool.specs.Session.{Plays};
 ghost use Rattle.media_tool.specs.Words.{play_words};
 
 use crate::play::play;
@@ -31,12 +31,9 @@ pub fn run<S: Source, W: Sink, K: Keeper, L: Ledger>(
     steps: &mut Steps<L>,
 ) -> (Status, K)
     // The sink took, and the keeper keeps, what this status promises for the bytes that the source gave.
-    ensures plays { Plays (K.gives keeper) (K.kept keeper) (K.kept result.1) (K.faults keeper) (K.faults result.1)
-        result.0 (S.left source.old) (S.left source.new) (W.taken sink.old) (W.taken sink.new) }
+    ensures plays { Plays (K.alien keeper) (K.gives keeper) (K.kept keeper) (K.kept result.1)
+        (K.faults keeper) (K.faults result.1) result.0 (S.left source.old) (S.left source.new) (W.taken sink.old) (W.taken sink.new) }
     ensures done { result.0 ≡ Status.Done → IsAtEnd (S.left source.new) }
-
-    // Where the library opened, whatever was given then, the keeper's changes are its own.
-    ensures own { HasOpened result.0 [] → K.alien keeper ≢ Some true }
 
     // Each other status has its cause.
     ensures usage { (result.0 ≡ Status.Usage) ↔ (map string_bytes words.now ≢ play_words) }

@@ -23,5 +23,5 @@ returns-in-Err-clause-plays g c =
     let keeper = c.args.keeper in
     let left = g.S.Source.left c.args.source.now in
     let taken = g.W.Sink.taken c.args.sink.now in
-    subst (λ (status : Status). Plays (g.K.Keeper.gives keeper) (g.K.Keeper.kept keeper) (g.K.Keeper.kept c.in-Err.keeper) (g.K.Keeper.faults keeper) (g.K.Keeper.faults c.in-Err.keeper) status left left taken taken) (sym c.status_of.ensures)
-    (plays_unopened c.in-Err.fail (g.K.Keeper.gives keeper) (g.K.Keeper.kept keeper) (g.K.Keeper.kept c.in-Err.keeper) (g.K.Keeper.faults keeper) (g.K.Keeper.faults c.in-Err.keeper) left taken c.in-Err.ensures.kept_fail c.in-Err.ensures.later_fail)
+    subst (λ (status : Status). Plays (g.K.Keeper.alien keeper) (g.K.Keeper.gives keeper) (g.K.Keeper.kept keeper) (g.K.Keeper.kept c.in-Err.keeper) (g.K.Keeper.faults keeper) (g.K.Keeper.faults c.in-Err.keeper) status left left taken taken) (sym c.status_of.ensures)
+    (plays_unopened c.in-Err.fail (g.K.Keeper.alien keeper) (g.K.Keeper.gives keeper) (g.K.Keeper.kept keeper) (g.K.Keeper.kept c.in-Err.keeper) (g.K.Keeper.faults keeper) (g.K.Keeper.faults c.in-Err.keeper) left taken c.in-Err.ensures.kept_fail c.in-Err.ensures.later_fail)
