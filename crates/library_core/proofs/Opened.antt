@@ -1,5 +1,5 @@
 -- What is kept opens the records, also after one more change.
-use Rattle.std.proofs.Common.{◌≡◌, ◌<◌, ◌≤◌, ℕ, suc, ◌+◌, List, [], ◌∷◌, ◌++◌, length, drop, get_or, slice_get, arith, Option, Some, None, option_map, Result, Ok, Err, refl, ap, subst, sym, ◌∙◌}
+use Rattle.std.proofs.Common.{◌≡◌, ◌<◌, ◌≤◌, ℕ, suc, ◌+◌, [], ◌∷◌, length, drop, get_or, slice_get, arith, Option, Some, None, option_map, Result, Ok, Err, IfOk, IfErr, ◌≢◌, refl, ap, subst, sym, ◌∙◌}
 use Rattle.std.specs.Option.{option_map_or}
 use Rattle.std.proofs.lemmas.Option.{same_Some, slice_get_within, get_or_from_slice_get, slice_get-get_or}
 use Rattle.std.proofs.Math.ListN.{drop_of_length-le}
@@ -8,6 +8,7 @@ use Rattle.media_base.specs.declared.change.Change.{Change}
 use Rattle.media_base.specs.Keeping.{Readings, with_change}
 use Rattle.library_machine.specs.Changes.{after_change, after_reading, opened, opened_from}
 use Rattle.library_machine.specs.Records.{Records, no_records}
+use Rattle.library_core.specs.declared.load_fail.LoadFail.{LoadFail}
 use Rattle.library_core.specs.declared.load_fail.LoadFail.TheVariants as fails
 
 next_more : (n : ℕ) (found : Option Records) (readings : Readings) (r after : Records) (change : Change) →
@@ -72,3 +73,17 @@ reading_at readings n lt = (get_or readings n None, slice_get-get_or readings n 
 
 pub same_number : (m n : ℕ) → fails.BadStore m ≡ fails.BadStore n → m ≡ n
 same_number m n e = cc e
+
+-- ---- opening again
+
+pub ok_same : {A B : Type 0} (result : Result A B) (records : A → Records) (readings : Readings) (r : Records) →
+    IfOk result (λ library. opened readings ≡ Ok (records library)) → opened readings ≡ Ok r →
+    IfOk result (λ library. records library ≡ r)
+ok_same (Ok library) records readings r is opens = let both = sym is ∙ opens in cc both
+ok_same (Err fail) records readings r is opens = tt
+
+pub never_bad : {A B : Type 0} (result : Result A (LoadFail × B)) (readings : Readings) (r : Records) →
+    ((n : ℕ) → IfErr result (λ fail. fail.0 ≡ fails.BadStore n → opened readings ≡ Err n)) → opened readings ≡ Ok r →
+    IfErr result (λ fail. (n : ℕ) → fail.0 ≢ fails.BadStore n)
+never_bad (Ok library) readings r bad opens = tt
+never_bad (Err fail) readings r bad opens = λ n told. let both = sym (bad n told) ∙ opens in cc both

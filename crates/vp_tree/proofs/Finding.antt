@@ -25,10 +25,10 @@ at_part-sum None F = refl
 at_part-sum (Some c) F = omega arith
 
 -- a sum over a stack from which a branch was taken, and onto which two parts were put
-sum-taken : (F : HashNo → ℕ) (stack : List HashNo) (at : HashNo) → sum_by F (stack ++ at ∷ []) ≡ sum_by F stack + F at
+pub sum-taken : (F : HashNo → ℕ) (stack : List HashNo) (at : HashNo) → sum_by F (stack ++ at ∷ []) ≡ sum_by F stack + F at
 sum-taken F stack at = omega (arith, sum_by-append F stack (at ∷ []))
 
-sum-put : (F : ℕ → ℕ) (stack : List HashNo) (a b : Option HashNo)
+pub sum-put : (F : ℕ → ℕ) (stack : List HashNo) (a b : Option HashNo)
     → sum_by (λ s. F s.0) (stack ++ option_to_list a ++ option_to_list b) ≡ sum_by (λ s. F s.0) stack + (at_part a F + at_part b F)
 sum-put F stack a b =
     omega (arith, sum_by-append (λ s. F s.0) (stack ++ option_to_list a) (option_to_list b), sum_by-append (λ s. F s.0) stack (option_to_list a), at_part-sum a F, at_part-sum b F)
@@ -40,10 +40,10 @@ pub reads-taken : (ns : List NodeView) (q : Hash64) (w : ℕ) (stack : List Hash
 reads-taken ns q w stack at T lt =
     omega (arith, sum-taken (λ s. reads_in (length ns) ns q w s.0) stack at, sum-put (reads_in (length ns) ns q w) stack (open_inner (node_at ns at.0) q w) (open_outer (node_at ns at.0) q w), reads-step ns q w at.0 T.linked.later lt)
 
-All-one : {X : Type 0} (P : X → Type 0) (x : X) → P x → All P (x ∷ [])
+pub All-one : {X : Type 0} (P : X → Type 0) (x : X) → P x → All P (x ∷ [])
 All-one P x h = All-cons P x [] h (All-nil P)
 
-All-option : (P : HashNo → Type 0) (o : Option HashNo) → ((c : HashNo) → o ≡ Some c → P c) → All P (option_to_list o)
+pub All-option : (P : HashNo → Type 0) (o : Option HashNo) → ((c : HashNo) → o ≡ Some c → P c) → All P (option_to_list o)
 All-option P None h = λ k d lt. absurd (omega (arith, lt))
 All-option P (Some c) h = All-one P c (h c refl)
 
@@ -80,7 +80,7 @@ pub taken-inside : (ns : List NodeView) (q : Hash64) (w : ℕ) (hits : List (Has
     → IsSearching ns q w hits (stack ++ at ∷ []) → at.0 < length ns
 taken-inside ns q w hits stack at h = (All-pop (λ s. s.0 < length ns) (stack ++ at ∷ []) stack (Some at) refl h.inside).1
 
-none-left : {X : Type 0} (xs : List X) → length xs ≡ 0 → xs ≡ []
+pub none-left : {X : Type 0} (xs : List X) → length xs ≡ 0 → xs ≡ []
 none-left [] e = refl
 none-left (x ∷ xs) e = absurd (omega (arith, e))
 

@@ -1,9 +1,16 @@
 pub mod Branches
+pub mod Built
+pub mod Collecting
 pub mod Finding
 pub mod Growing
 pub mod Grown
 pub mod Metric
 pub mod Placed
+pub mod Radii
+pub mod Rebuilt
+pub mod Replaced
+pub mod Single
 pub mod Sorting
 pub mod Tables
+pub mod Times
 pub mod Ways

@@ -1,3 +1,4 @@
+pub mod Building
 pub mod Nodes
 pub mod Placing
 pub mod Searching

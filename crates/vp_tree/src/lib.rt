@@ -2,6 +2,8 @@
 //! and reads only the branches that can hold one.
 #![tactic(auto)]
 
+mod branch;
+mod building;
 mod hits;
 mod laws;
 mod link;
@@ -13,9 +15,9 @@ mod table;
 mod tree;
 
 pub use hits::HitList;
-pub use laws::distance_laws;
+pub use laws::{distance_laws, root_law};
 pub use node::NodeView;
-pub use plan::InsertPlan;
+pub use plan::{BuildPlan, InsertPlan};
 pub use tree::Tree;
 
 #[cfg(test)]

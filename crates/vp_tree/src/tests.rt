@@ -32,6 +32,18 @@ fn insert<L: Ledger>(
     Ok(number)
 }
 
+fn build<L: Ledger>(
+    rt: &impl Abort,
+    tree: &mut Tree,
+    top: HashNo,
+    steps: &mut Steps<L>,
+) -> Result<(), NoMemory> {
+    assert!(rt; top.0 < tree.len());
+    let plan = tree.plan_build(top, steps)?;
+    tree.commit_build(plan);
+    Ok(())
+}
+
 // The plain way: look at every word.
 fn assert_as_scan<L: Ledger>(
     rt: &impl Abort,
@@ -101,6 +113,86 @@ fn three_words_in<L: Ledger>(
 fn three_words(rt: HostRuntime) -> Result<(), Fail> {
     three_words_in::<Brand>(&rt, rt.alloc(), Blank::new(1))?;
     distance_laws();
+    root_law();
+    Ok(())
+}
+
+fn assert_node(
+    rt: &impl Abort,
+    tree: &Tree,
+    at: u32,
+    radius: Option<u8>,
+    parts: (Option<HashNo>, Option<HashNo>),
+    below: u32,
+) {
+    assert!(rt; at < tree.len());
+    let node = tree.node(HashNo(at));
+    assert_eq!(rt; node.radius, radius);
+    assert_eq!(rt; (node.inner, node.outer), parts);
+    assert_eq!(rt; (node.below, node.built), (below, below));
+}
+
+// The others differ from the first word in 16, 1, 2 and 2 bits.
+fn built_nodes_in<L: Ledger>(
+    rt: &(impl Abort + Threads),
+    alloc: Global,
+    blank: Blank,
+) -> Result<(), NoMemory>
+    requires name { blank.name ≡ L.name }
+    requires parts { blank.parts ≡ L.parts }
+    requires some { 0 < L.parts }
+{
+    let mut steps = Steps::<L>::new(rt, blank);
+    let mut tree = Tree::new(alloc);
+    for word in [0, 0xffff, 0x1, 0x3, 0x6] {
+        insert(rt, &mut tree, Hash64(word), &mut steps)?;
+    }
+    build(rt, &mut tree, HashNo(0), &mut steps)?;
+    assert_node(rt, &tree, 0, Some(2), (Some(HashNo(2)), Some(HashNo(1))), 4);
+    assert_node(rt, &tree, 1, None, (None, None), 0);
+    assert_node(rt, &tree, 2, Some(1), (Some(HashNo(3)), Some(HashNo(4))), 2);
+    assert_node(rt, &tree, 3, None, (None, None), 0);
+    let near = [
+        (HashNo(0), 0),
+        (HashNo(2), 1),
+        (HashNo(3), 2),
+        (HashNo(4), 2),
+    ];
+    assert_hits(rt, &tree, 2, &near, &mut steps)
+}
+
+#[test]
+fn built_nodes(rt: HostRuntime) -> Result<(), Fail> {
+    built_nodes_in::<Brand>(&rt, rt.alloc(), Blank::new(1))?;
+    Ok(())
+}
+
+// Words of one bit each lie at the same distance from 0, and at the same from one another.
+fn equal_distances_in<L: Ledger>(
+    rt: &(impl Abort + Threads),
+    alloc: Global,
+    blank: Blank,
+) -> Result<(), NoMemory>
+    requires name { blank.name ≡ L.name }
+    requires parts { blank.parts ≡ L.parts }
+    requires some { 0 < L.parts }
+{
+    let mut steps = Steps::<L>::new(rt, blank);
+    let mut tree = Tree::new(alloc);
+    for word in [0, 0x1, 0x2, 0x4] {
+        insert(rt, &mut tree, Hash64(word), &mut steps)?;
+    }
+    build(rt, &mut tree, HashNo(1), &mut steps)?;
+    assert_node(rt, &tree, 1, Some(2), (Some(HashNo(2)), None), 2);
+    build(rt, &mut tree, HashNo(0), &mut steps)?;
+    assert_node(rt, &tree, 0, Some(1), (Some(HashNo(1)), None), 3);
+    assert_node(rt, &tree, 2, Some(2), (Some(HashNo(3)), None), 1);
+    Ok(())
+}
+
+#[test]
+fn equal_distances(rt: HostRuntime) -> Result<(), Fail> {
+    equal_distances_in::<Brand>(&rt, rt.alloc(), Blank::new(1))?;
     Ok(())
 }
 
@@ -116,6 +208,19 @@ fn family_word(number: u64) -> Hash64 {
     Hash64(first ^ near)
 }
 
+fn assert_all_as_scan<L: Ledger>(
+    rt: &impl Abort,
+    tree: &Tree,
+    steps: &mut Steps<L>,
+) -> Result<(), NoMemory> {
+    for number in 0..20 {
+        for within in [0, 1, 8, 16, 64] {
+            assert_as_scan(rt, tree, family_word(number * 203), within, steps)?;
+        }
+    }
+    Ok(())
+}
+
 fn many_words_in<L: Ledger>(
     rt: &(impl Abort + Threads),
     alloc: Global,
@@ -127,15 +232,14 @@ fn many_words_in<L: Ledger>(
 {
     let mut steps = Steps::<L>::new(rt, blank);
     let mut tree = Tree::new(alloc);
-    for number in 0..2000 {
+    for number in 0..4000 {
         insert(rt, &mut tree, family_word(number), &mut steps)?;
     }
-    for number in 0..40 {
-        for within in [0, 1, 8, 16, 64] {
-            assert_as_scan(rt, &tree, family_word(number * 51), within, &mut steps)?;
-        }
-    }
-    Ok(())
+    assert_all_as_scan(rt, &tree, &mut steps)?;
+    build(rt, &mut tree, HashNo(1), &mut steps)?;
+    assert_all_as_scan(rt, &tree, &mut steps)?;
+    build(rt, &mut tree, HashNo(0), &mut steps)?;
+    assert_all_as_scan(rt, &tree, &mut steps)
 }
 
 #[test]

@@ -1,14 +1,17 @@
 ghost use Rattle.std.specs.Prelude.{◌≡◌, ◌+◌, ◌<◌, ◌≤◌, [], ◌++◌, length, IfOk, OnOk, nat_le, if◌then◌else◌, ◌∷◌, All, ◌≢◌, None};
 ghost use Rattle.std.specs.Option.{option_to_list};
-ghost use Rattle.vp_tree.specs.Nodes.{node_at};
+ghost use Rattle.vp_tree.specs.Building.{IsPlanFor, IsRebuilt};
+ghost use Rattle.vp_tree.specs.Nodes.{node_at, size};
 ghost use Rattle.vp_tree.specs.Placing.{CanTake, IsPlaced, way};
 ghost use Rattle.vp_tree.specs.Searching.{filter_of, hit, opens_inner, opens_outer, open_inner, open_outer, reads};
 ghost use Rattle.vp_tree.specs.Shape.{IsTree};
 
+use crate::branch::{collect_points, replace_nodes};
+use crate::building::build_nodes;
 use crate::hits::HitList;
 use crate::node::NodeView;
 use crate::placing::grow_way;
-use crate::plan::InsertPlan;
+use crate::plan::{BuildPlan, InsertPlan};
 use crate::table::NodeTable;
 use media_types::{Hash64, HashNo, NoMemory, Steps, distance};
 use std::alloc::Global;
@@ -96,6 +99,35 @@ impl Tree {
         grow_way(&mut self.table, number, plan.word, steps);
         self.table.push_leaf(plan.word);
         (number, None)
+    }
+
+    /// Works out how the branch at a node is built anew: its least number is the point of its first
+    /// node, at least half of the others lie within that node's radius, and each part is built likewise.
+    ///
+    /// It reads each node of the branch once, and takes all the memory. The tree stays as it is.
+    pub fn plan_build<L: Ledger>(
+        &self,
+        top: HashNo,
+        steps: &mut Steps<L>,
+    ) -> Result<BuildPlan, NoMemory>
+        requires { top.0 < length self.now.rows }
+        ensures top { IfOk result (λ plan. plan.top ≡ top) }
+        ensures ready { IfOk result (IsPlanFor self.now.rows) }
+        ensures steps { OnOk result (steps.new ≡ steps.old + size self.now.rows top.0) }
+        ensures at_most { steps.new ≤ steps.old + size self.now.rows top.0 }
+    {
+        let points = collect_points(&self.table, self.alloc, top, steps)?;
+        let nodes = build_nodes(self.alloc, points)?;
+        Ok(BuildPlan { top, nodes })
+    }
+
+    /// Puts the branch of a plan that was made for this very tree in the place of the one it has.
+    pub fn commit_build(&mut self, plan: BuildPlan)
+        requires { IsPlanFor self.old.rows plan }
+        ensures rebuilt { IsRebuilt self.old.rows self.new.rows plan.top.0 }
+        ensures spare { self.new.spare ≡ self.old.spare }
+    {
+        replace_nodes(&mut self.table, &plan);
     }
 
     /// The words within a distance of the query.

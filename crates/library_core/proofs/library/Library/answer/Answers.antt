@@ -2,8 +2,7 @@ use Rattle.std.proofs.Common.{◌≡◌, Some, sym, subst, ap, ◌∙◌}
 use Rattle.media_base.specs.declared.command.Caller.TheVariants.{Console}
 use Rattle.media_base.specs.Keeping.{HasGivenAll}
 use Rattle.library_machine.specs.Changes.{after_change}
-use Rattle.library_machine.specs.Records.{Records, Fits}
-use Rattle.library_machine.specs.Step.{step}
+use Rattle.library_machine.specs.Records.{Fits}
 use Rattle.library_core.specs.Tables.{records_of}
 use Rattle.library_core.proofs.Opened.{opens_more}
 use Rattle.library_core.proofs.library.Library.answer.Goals as goal

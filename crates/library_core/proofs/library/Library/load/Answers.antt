@@ -1,6 +1,5 @@
-use Rattle.std.proofs.Common.{◌≡◌, ◌<◌, Some, None, Ok, Err, length, option_map, arith, sym, subst, ap, ◌∙◌}
-use Rattle.media_base.specs.Keeping.{Readings, next_place}
-use Rattle.library_machine.specs.Changes.{opened, opened_from}
+use Rattle.std.proofs.Common.{◌≡◌, ◌<◌, Err, length, option_map, arith, sym, subst, ap, ◌∙◌}
+use Rattle.media_base.specs.Keeping.{next_place}
 use Rattle.library_machine.specs.Records.{Fits}
 use Rattle.library_core.specs.Tables.{TablesView, records_of}
 use Rattle.library_core.proofs.Opened.{opened_step, opened_bad, opened_end, reading_at, same_number}

@@ -1,0 +1,135 @@
+#!/usr/bin/env python3
+"""Times `./medialib play -` over import and decision lines, beside two peers in the same run.
+
+The peers are `jq -c .`, which reads and writes the same lines and does nothing with them, and
+bench/peer, a Rust program over serde_json, a HashMap and a BufWriter that answers the same lines. It is
+built with cargo from the crates that Debian's librust-serde-json-dev installs. A peer that is missing
+on this machine is skipped with a line that says so.
+
+    bench/play.py [IMPORTS [DECISIONS]]
+
+Each program runs some times in turn; the least time of each counts. A decision looks at all files for
+now, so the decisions are timed over fewer files than the imports.
+"""
+import os
+import pathlib
+import shutil
+import subprocess
+import sys
+import tempfile
+import time
+
+HERE = pathlib.Path(__file__).resolve().parent
+TOP = HERE.parent
+ROUNDS = 3
+REGISTRY = pathlib.Path("/usr/share/cargo/registry")
+
+
+def import_line(number):
+    return (
+        '{"do":"import","sha256":"%064x","hashes":[],"size":%d,"width":640,"height":480}\n'
+        % (number, 1000 + number)
+    )
+
+
+def imports(count):
+    return "".join(import_line(number) for number in range(count))
+
+
+def decisions(files, count):
+    """Better decisions between neighbours: the groups are pairs, and every second round has no effect."""
+    lines = []
+    for number in range(count):
+        a = 2 * number % (files - files % 2)
+        lines.append('{"do":"decide","code":4,"a":%d,"b":%d}\n' % (a, a + 1))
+    return "".join(lines)
+
+
+def seconds(command, path):
+    best = None
+    for _ in range(ROUNDS):
+        with open(path, "rb") as source, open(os.devnull, "wb") as sink:
+            start = time.monotonic()
+            subprocess.run(command, stdin=source, stdout=sink, check=True)
+            taken = time.monotonic() - start
+        best = taken if best is None else min(best, taken)
+    return best
+
+
+def peer_command(folder):
+    """The peer that answers the same lines, built in a folder of its own; none where it can't be built."""
+    if shutil.which("cargo") is None:
+        print("peer: skipped, there is no cargo on this machine")
+        return None
+    if not any(REGISTRY.glob("serde_json-*")):
+        print("peer: skipped, Debian's librust-serde-json-dev is not on this machine")
+        return None
+    target = pathlib.Path(folder) / "peer"
+    shutil.copytree(HERE / "peer", target)
+    config = target / ".cargo"
+    config.mkdir()
+    (config / "config.toml").write_text(
+        '[source.crates-io]\nreplace-with = "debian"\n[source.debian]\ndirectory = "%s"\n' % REGISTRY
+    )
+    built = subprocess.run(
+        ["cargo", "build", "--release", "--offline", "--quiet"], cwd=target
+    )
+    if built.returncode != 0:
+        print("peer: skipped, it could not be built")
+        return None
+    return [str(target / "target" / "release" / "peer")]
+
+
+def programs(folder):
+    found = {"medialib": [str(TOP / "medialib"), "play", "-"]}
+    if shutil.which("jq") is None:
+        print("jq: skipped, it is not on this machine")
+    else:
+        found["jq"] = ["jq", "-c", "."]
+    peer = peer_command(folder)
+    if peer is not None:
+        found["peer"] = peer
+    return found
+
+
+def report(title, lines, times):
+    print("%s, %d lines" % (title, lines))
+    for name, taken in times.items():
+        print("  %-9s %8.3f s  %10.0f lines a second" % (name, taken, lines / taken))
+    for name, taken in times.items():
+        if name != "medialib":
+            print("  medialib takes %.2f times as long as %s" % (times["medialib"] / taken, name))
+
+
+def main():
+    count = int(sys.argv[1]) if len(sys.argv) > 1 else 100_000
+    decided = int(sys.argv[2]) if len(sys.argv) > 2 else 2_000
+    subprocess.run([str(TOP / "medialib"), "play", "-"], stdin=subprocess.DEVNULL, check=True)
+    with tempfile.TemporaryDirectory() as folder:
+        cases = {
+            "imports": (imports(count), count),
+            "twice the imports": (imports(2 * count), 2 * count),
+            "decisions": (imports(decided) + decisions(decided, decided), 2 * decided),
+            "twice the files and decisions": (
+                imports(2 * decided) + decisions(2 * decided, 2 * decided),
+                4 * decided,
+            ),
+        }
+        commands = programs(folder)
+        path = os.path.join(folder, "lines")
+        taken = {}
+        for title, (text, lines) in cases.items():
+            with open(path, "w") as out:
+                out.write(text)
+            times = {name: seconds(command, path) for name, command in commands.items()}
+            taken[title] = times["medialib"]
+            report(title, lines, times)
+        print("twice the imports take %.2f times as long" % (taken["twice the imports"] / taken["imports"]))
+        print(
+            "twice the files and decisions take %.2f times as long"
+            % (taken["twice the files and decisions"] / taken["decisions"])
+        )
+
+
+if __name__ == "__main__":
+    main()
