@@ -8,7 +8,7 @@ use Rattle.media_base.specs.TransferLaws.{gave_none, gave_more}
 use Rattle.media_base.specs.declared.status.Status.{Status}
 use Rattle.media_base.specs.declared.status.Status.TheVariants as statuses
 use Rattle.library_machine.specs.Records.{no_records}
-use Rattle.media_tool.specs.Feeding.{Fed, FedKept, Stopped}
+use Rattle.media_tool.specs.Feeding.{FedKept, Stopped}
 use Rattle.media_tool.specs.Kept.{Keeps}
 use Rattle.media_tool.specs.Run.{State}
 use Rattle.library_core.specs.declared.load_fail.LoadFail.{LoadFail}

@@ -71,7 +71,7 @@ pub run_counts : NeverReadAs refusals.NotKept → (s t : State) (lines : List (L
 run_counts never s t [] [] p = let e : t.faults ≡ s.faults = cc in omega arith
 run_counts never s t (line ∷ lines) (reply ∷ given) p =
     let first = counted_by_test (is_not_kept reply) s.faults p.0.faults (answered_later s p.0 line reply p.1)
-        (λ is. answered_rose never s p.0 line reply p.1 (not_kept_reply reply is)) in
+    (λ is. answered_rose never s p.0 line reply p.1 (not_kept_reply reply is)) in
     let others = run_counts never p.0 t lines given p.2 in
     let both : count_not_kept (reply ∷ given) ≡ cond (is_not_kept reply) 1 0 + count_not_kept given = sum_by-cons (λ (one : Reply). cond (is_not_kept one) 1 0) reply given in
     omega (arith, first, others)

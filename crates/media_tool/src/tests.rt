@@ -1,3 +1,5 @@
+mod keepers;
+
 ghost use Rattle.std.specs.Prelude.{◌≡◌, ◌<◌};
 ghost use Rattle.media_types.specs.Cause.{HasCause, failed};
 ghost use Rattle.media_base.specs.Transfer.{Writes};
@@ -7,6 +9,7 @@ use media_base::{
     ByteList, BytesSink, BytesSource, CallList, Failed, NoMemory, Sink, SizeList, Source, Status,
     Steps,
 };
+use media_keeper::QuietKeeper;
 use std::alloc::{AllocError, Global};
 use std::marker::Brand;
 use std::process::Abort;
@@ -101,7 +104,8 @@ fn run_counted<S: Source, W: Sink, L: Ledger>(
     requires some { 0 < L.parts }
 {
     let mut steps = Steps::<L>::new(rt, blank);
-    run(alloc, words, source, sink, &mut steps)
+    let (status, _keeper) = run(alloc, words, source, sink, QuietKeeper::new(), &mut steps);
+    status
 }
 
 fn failing(alloc: Global, call: u64) -> Result<CallList, NoMemory> {

@@ -1,4 +1,3 @@
-use Rattle.std.proofs.Common.{◌≡◌, Err}
 use Rattle.media_base.specs.declared.refusal.Refusal.TheVariants as refusals
 use Rattle.command_text.specs.Spelling.{IsOfReading, too_long, not_json, not_a_request, bad_hash}
 use Rattle.media_tool.proofs.Runs.{run_counts}

@@ -1,4 +1,4 @@
-use Rattle.std.proofs.Common.{◌≡◌, ◌≤◌, ap, sym, subst, arith}
+use Rattle.std.proofs.Common.{◌≡◌, ap, sym, subst, arith}
 use Rattle.media_base.specs.declared.status.Status.{Status}
 use Rattle.library_core.specs.Keeping.{LibraryView}
 use Rattle.media_tool.specs.Run.{state_of}
@@ -14,7 +14,7 @@ returns-in-Ok-clause-later_store g c =
     let after = c.play_session-status.new.session.library in
     let opened : faults opening.keeper ≡ faults c.in-Ok.library.keeper = ap (λ (library : LibraryView g.row.K.Denot). faults library.keeper) c.new-session.ensures.library in
     let played = plays_later c.play_session-status.result (state opening) (state after) (g.S.Source.left c.args.source.now) (g.S.Source.left c.play_session-status.new.source)
-        (g.W.Sink.taken c.args.sink.now) (g.W.Sink.taken c.play_session-status.new.sink) c.play_session-status.ensures.plays in
+    (g.W.Sink.taken c.args.sink.now) (g.W.Sink.taken c.play_session-status.new.sink) c.play_session-status.ensures.plays in
     let released : faults c.release.result ≡ faults after.keeper = ap faults c.release.ensures.keeper in
     omega (arith, c.in-Ok.ensures.later, opened, played, released)
 

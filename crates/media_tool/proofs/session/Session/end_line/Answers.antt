@@ -1,5 +1,4 @@
 use Rattle.std.proofs.Common.{◌≡◌, ◌≢◌, List, ℕ, [], ◌++◌, refl, sym, ap, subst}
-use Rattle.library_core.specs.Keeping.{LibraryView}
 use Rattle.media_tool.specs.Feeding.{Fed, Stopped}
 use Rattle.media_tool.specs.Lines.{with_feed}
 use Rattle.media_tool.specs.Run.{State, state_of}
