@@ -1,9 +1,9 @@
-ghost use Rattle.std.specs.Prelude.{◌≡◌, ◌≢◌, ◌⊎◌, ◌+◌, ◌<◌, ◌≤◌, true, Some, Ok};
+ghost use Rattle.std.specs.Prelude.{◌≡◌, ◌≢◌, ◌⊎◌, ◌+◌, ◌<◌, ◌≤◌, true, false, Some, Ok};
 ghost use Rattle.media_types.specs.Cause.{Rose};
 ghost use Rattle.media_base.specs.Keeping.{Readings};
 ghost use Rattle.media_base.specs.declared.change.Change.{Change as ChangeValue};
 ghost use Rattle.media_base.specs.declared.refusal.Refusal.{Refusal};
-ghost use Rattle.library_machine.specs.Changes.{kept_with, opened};
+ghost use Rattle.library_machine.specs.Changes.{is_refused, kept_with, opened};
 ghost use Rattle.library_machine.specs.Records.{Fits};
 ghost use Rattle.library_machine.specs.Step as machine;
 ghost use Rattle.library_core.specs.Opening.{put_refusal};
@@ -63,6 +63,13 @@ impl<K: Keeper> Library<K> {
             → (machine.step self.old.records caller command.now).change ≡ Some change
             → K.limit self.old.keeper < K.used self.old.keeper + K.units self.old.keeper change
             → (result ≡ Reply.Refused Refusal.NoMemory) ⊎ (result ≡ Reply.Refused Refusal.JournalFull) }
+
+        ensures same_limit { K.limit self.new.keeper ≡ K.limit self.old.keeper }
+        ensures same_units { K.units self.new.keeper ≡ K.units self.old.keeper }
+        ensures used { (change : ChangeValue)
+            → (machine.step self.old.records caller command.now).change ≡ Some change → is_refused result ≡ false
+            → K.used self.new.keeper ≡ K.used self.old.keeper + K.units self.old.keeper change }
+        ensures same_used { (why : Refusal) → result ≡ Reply.Refused why → K.used self.new.keeper ≡ K.used self.old.keeper }
 
         ensures later { K.faults self.old.keeper ≤ K.faults self.new.keeper }
         ensures not_kept { result ≡ Reply.Refused Refusal.NotKept
