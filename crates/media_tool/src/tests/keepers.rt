@@ -2,8 +2,10 @@
 
 ghost use Rattle.std.specs.Prelude.{◌≡◌, ◌<◌};
 
-use super::{FOUR_LINES, FOUR_REPLIES, Line, input_of, source_of};
+use super::{FOUR_LINES, FOUR_REPLIES};
 use crate::run;
+use crate::tests::lines::{Line, input_of};
+use crate::tests::playing::source_of;
 use media_base::{BytesSink, BytesSource, CallList, ChangeList, NoMemory, Status, Steps};
 use media_keeper::MemoryKeeper;
 use std::alloc::Global;

@@ -1,0 +1,199 @@
+//! Worked sessions: each line with its reply.
+
+use crate::tests::lines::Code::{Alternates, Better, NotRelated, Same, Worse};
+use crate::tests::lines::Line::{self, Decide, Import, Relations, Text, Undo};
+use crate::tests::playing::Manner;
+use crate::tests::scripts::Script;
+use std::test::Fail;
+
+#[derive(Clone, Copy)]
+struct Case {
+    shows: &'static str,
+    files: u32,
+    rows: &'static [(Line, &'static str)],
+}
+
+const DECISION_0: &str = r#"{"decision":0}"#;
+
+const DECISION_1: &str = r#"{"decision":1}"#;
+
+const DECISION_2: &str = r#"{"decision":2}"#;
+
+const UNKNOWN_FILE: &str = r#"{"error":"unknown_file"}"#;
+
+const DUPLICATES: [Case; 5] = [
+    Case {
+        shows: "the better file is king",
+        files: 2,
+        rows: &[
+            (Decide(Better, 0, 1), DECISION_0),
+            (
+                Relations(1),
+                r#"{"king":0,"members":[0,1],"alternates":[],"not_related":[]}"#,
+            ),
+        ],
+    },
+    Case {
+        shows: "the other file of a worse one is king",
+        files: 2,
+        rows: &[
+            (Decide(Worse, 0, 1), DECISION_0),
+            (
+                Relations(0),
+                r#"{"king":1,"members":[0,1],"alternates":[],"not_related":[]}"#,
+            ),
+        ],
+    },
+    Case {
+        shows: "a worse file that was not king leaves its group behind",
+        files: 4,
+        rows: &[
+            (Decide(Better, 0, 1), DECISION_0),
+            (Decide(Better, 2, 3), DECISION_1),
+            (Decide(Better, 0, 3), DECISION_2),
+            (
+                Relations(3),
+                r#"{"king":0,"members":[0,1,3],"alternates":[],"not_related":[]}"#,
+            ),
+            (
+                Relations(2),
+                r#"{"king":2,"members":[2],"alternates":[],"not_related":[]}"#,
+            ),
+        ],
+    },
+    Case {
+        shows: "the group of the one king goes to the other's",
+        files: 4,
+        rows: &[
+            (Decide(Better, 0, 1), DECISION_0),
+            (Decide(Better, 2, 3), DECISION_1),
+            (Decide(Same, 0, 3), DECISION_2),
+            (
+                Relations(3),
+                r#"{"king":2,"members":[0,1,2,3],"alternates":[],"not_related":[]}"#,
+            ),
+        ],
+    },
+    Case {
+        shows: "alternates are no duplicates any more",
+        files: 2,
+        rows: &[
+            (Decide(Better, 0, 1), DECISION_0),
+            (Decide(Alternates, 0, 1), DECISION_1),
+            (
+                Relations(1),
+                r#"{"king":1,"members":[1],"alternates":[0],"not_related":[]}"#,
+            ),
+        ],
+    },
+];
+
+const UNDOINGS: [Case; 2] = [
+    Case {
+        shows: "the decisions behind an undone one stand",
+        files: 3,
+        rows: &[
+            (Decide(Better, 0, 1), DECISION_0),
+            (Decide(Better, 1, 2), DECISION_1),
+            (
+                Relations(2),
+                r#"{"king":0,"members":[0,1,2],"alternates":[],"not_related":[]}"#,
+            ),
+            (Undo(0), r#"{"undone":0}"#),
+            (
+                Relations(2),
+                r#"{"king":1,"members":[1,2],"alternates":[],"not_related":[]}"#,
+            ),
+            (
+                Relations(0),
+                r#"{"king":0,"members":[0],"alternates":[],"not_related":[]}"#,
+            ),
+            (Undo(0), r#"{"error":"already_undone"}"#),
+            (Undo(2), r#"{"error":"unknown_decision"}"#),
+        ],
+    },
+    Case {
+        shows: "what is not related to a file is none to its alternates",
+        files: 3,
+        rows: &[
+            (Decide(NotRelated, 0, 1), DECISION_0),
+            (Decide(Alternates, 1, 2), DECISION_1),
+            (
+                Relations(2),
+                r#"{"king":2,"members":[2],"alternates":[1],"not_related":[0]}"#,
+            ),
+            (Undo(1), r#"{"undone":1}"#),
+            (
+                Relations(2),
+                r#"{"king":2,"members":[2],"alternates":[],"not_related":[]}"#,
+            ),
+            (
+                Relations(0),
+                r#"{"king":0,"members":[0],"alternates":[],"not_related":[1]}"#,
+            ),
+        ],
+    },
+];
+
+const OTHERS: [Case; 4] = [
+    Case {
+        shows: "nothing is asked",
+        files: 0,
+        rows: &[],
+    },
+    Case {
+        shows: "a known file keeps its number",
+        files: 2,
+        rows: &[(Import(0), r#"{"file":0,"status":2}"#)],
+    },
+    Case {
+        shows: "files that aren't there",
+        files: 1,
+        rows: &[
+            (Decide(Better, 0, 0), r#"{"error":"same_file"}"#),
+            (Decide(Better, 0, 1), UNKNOWN_FILE),
+            (Decide(Better, 7, 7), UNKNOWN_FILE),
+            (Relations(1), UNKNOWN_FILE),
+            (Relations(5), UNKNOWN_FILE),
+            (Undo(0), r#"{"error":"unknown_decision"}"#),
+            (Decide(Worse, 0, 0), r#"{"error":"same_file"}"#),
+        ],
+    },
+    // The last line has no line feed, and its reply has one.
+    Case {
+        shows: "faulty lines",
+        files: 0,
+        rows: &[
+            (Text("[\n"), r#"{"error":"not_json"}"#),
+            (Text("\n"), r#"{"error":"not_json"}"#),
+            (
+                Text("{\"do\":\"fly\"}\n"),
+                r#"{"error":"not_a_request","field":"do"}"#,
+            ),
+            (
+                Text("{\"do\":\"import\",\"sha256\":\"00\",\"size\":1,\"width\":1,\"height\":1}\n"),
+                r#"{"error":"bad_hash"}"#,
+            ),
+            (Relations(5), UNKNOWN_FILE),
+            (Text("[1]"), r#"{"error":"not_a_request","field":"do"}"#),
+        ],
+    },
+];
+
+#[test]
+fn sessions_are_answered(rt: HostRuntime) -> Result<(), Fail> {
+    for case in DUPLICATES.iter().chain(&UNDOINGS).chain(&OTHERS) {
+        let mut script = Script::with_files(rt.alloc(), case.files)?;
+        for (line, reply) in case.rows {
+            script.say(*line, reply)?;
+        }
+        for narrow in [false, true] {
+            let manner = Manner {
+                narrow,
+                ..Manner::PLAIN
+            };
+            script.assert_answered(&rt, manner, case.shows)?;
+        }
+    }
+    Ok(())
+}

@@ -1,0 +1,69 @@
+//! Sessions with the replies that they must get.
+
+use crate::tests::lines::Line;
+use crate::tests::playing::{Manner, played};
+use media_base::{NoMemory, Status};
+use std::alloc::{AllocError, Global};
+use std::process::Abort;
+use std::test::Fail;
+use std::thread::Threads;
+
+/// A session's input, and the replies that it must get.
+#[derive(Drop)]
+pub struct Script {
+    alloc: Global,
+    input: String,
+    replies: String,
+}
+
+impl Script {
+    /// A session that imports the files 0 up to so many.
+    pub fn with_files(alloc: Global, files: u32) -> Result<Script, AllocError> {
+        let mut script = Script {
+            alloc,
+            input: String::new(alloc),
+            replies: String::new(alloc),
+        };
+        for file in 0..files {
+            Line::Import(file).write_to(&mut script.input)?;
+            writeln!(script.replies, "{{\"file\":{file},\"status\":1}}")?;
+        }
+        Ok(script)
+    }
+
+    /// The next line, and its reply without the line feed.
+    pub fn say(&mut self, line: Line, reply: &str) -> Result<(), AllocError> {
+        line.write_to(&mut self.input)?;
+        writeln!(self.replies, "{reply}")
+    }
+
+    /// The next line is a decision, which gets this number.
+    pub fn decide(&mut self, line: Line, number: usize) -> Result<(), AllocError> {
+        line.write_to(&mut self.input)?;
+        writeln!(self.replies, "{{\"decision\":{number}}}")
+    }
+
+    /// The next line is an undoing, which is accepted.
+    pub fn undo(&mut self, number: u32) -> Result<(), AllocError> {
+        Line::Undo(number).write_to(&mut self.input)?;
+        writeln!(self.replies, "{{\"undone\":{number}}}")
+    }
+
+    /// Plays it, and compares each line of what was written.
+    pub fn assert_answered(
+        &self,
+        rt: &(impl Threads + Abort),
+        manner: Manner,
+        shows: &str,
+    ) -> Result<(), Fail> {
+        let (status, written) = played(rt, self.alloc, &["play", "-"], &self.input, manner)?;
+        assert_eq!(rt; status, Status::Done, "{shows}");
+        let found = str::from_utf8(&written)?;
+        let replies = found.lines().zip(self.replies.lines());
+        for (line, (reply, want)) in self.input.lines().zip(replies) {
+            assert_eq!(rt; reply, want, "{shows}: to {line}");
+        }
+        assert!(rt; found == self.replies.as_str(), "{shows}: other replies");
+        Ok(())
+    }
+}
