@@ -68,7 +68,7 @@ pub record PlaysFrom (opening after : State) (status : Status) (left_old left_ne
   pub limit : (status ≡ statuses.InputTooLong) ↔ (MAX_INPUT < length given)
   pub played : Played status opening after given taken_old taken_new
 
--- A session ends so once its library is open.
+-- A session whose library opened ends so.
 abbrev pub HasRun : Status → Type 0
 HasRun statuses.Usage = ⊥
 HasRun statuses.StoreFault = ⊥
@@ -76,7 +76,7 @@ HasRun (statuses.BadStore n) = ⊥
 HasRun statuses.AlienStore = ⊥
 HasRun status = Unit {0}
 
--- The library was open: at each of these ends, but where memory ran out only if bytes were given.
+-- The library opened: at each of these ends, but where memory ran out only if bytes were given.
 abbrev pub HasOpened : Status → List ℕ → Type 0
 HasOpened statuses.NoMemory given = given ≢ []
 HasOpened status given = HasRun status

@@ -43,7 +43,8 @@ fn play_pieces<S: Source, W: Sink, K: Keeper, L: Ledger>(
 ) -> Status
     requires line { session.old.line.items ≡ [] }
     requires chunk { length chunk.old ≡ PIECE }
-    ensures plays { PlaysFrom (state_of K.kept K.faults session.old.library) (state_of K.kept K.faults session.new.library)
+    ensures plays { PlaysFrom (state_of K.kept K.faults session.old.library)
+        (state_of K.kept K.faults session.new.library)
         result (S.left source.old) (S.left source.new) (W.taken sink.old) (W.taken sink.new) }
     ensures done { result ≡ Status.Done → IsAtEnd (S.left source.new) }
     ensures ran { HasRun result }
@@ -83,7 +84,8 @@ fn play_session<S: Source, W: Sink, K: Keeper, L: Ledger>(
     steps: &mut Steps<L>,
 ) -> Status
     requires { session.old.line.items ≡ [] }
-    ensures plays { PlaysFrom (state_of K.kept K.faults session.old.library) (state_of K.kept K.faults session.new.library)
+    ensures plays { PlaysFrom (state_of K.kept K.faults session.old.library)
+        (state_of K.kept K.faults session.new.library)
         result (S.left source.old) (S.left source.new) (W.taken sink.old) (W.taken sink.new) }
     ensures done { result ≡ Status.Done → IsAtEnd (S.left source.new) }
     ensures ran { HasRun result }
@@ -119,7 +121,8 @@ pub fn play<S: Source, W: Sink, K: Keeper, L: Ledger>(
     steps: &mut Steps<L>,
 ) -> (Status, K)
     ensures plays { Plays (K.alien keeper) (K.gives keeper) (K.kept keeper) (K.kept result.1)
-        (K.faults keeper) (K.faults result.1) result.0 (S.left source.old) (S.left source.new) (W.taken sink.old) (W.taken sink.new) }
+        (K.faults keeper) (K.faults result.1)
+        result.0 (S.left source.old) (S.left source.new) (W.taken sink.old) (W.taken sink.new) }
     ensures done { result.0 ≡ Status.Done → IsAtEnd (S.left source.new) }
     ensures ran { result.0 ≢ Status.Usage }
     ensures later_read { S.faults source.old ≤ S.faults source.new }

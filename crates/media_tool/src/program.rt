@@ -32,7 +32,8 @@ pub fn run<S: Source, W: Sink, K: Keeper, L: Ledger>(
 ) -> (Status, K)
     // The sink took, and the keeper keeps, what this status promises for the bytes that the source gave.
     ensures plays { Plays (K.alien keeper) (K.gives keeper) (K.kept keeper) (K.kept result.1)
-        (K.faults keeper) (K.faults result.1) result.0 (S.left source.old) (S.left source.new) (W.taken sink.old) (W.taken sink.new) }
+        (K.faults keeper) (K.faults result.1)
+        result.0 (S.left source.old) (S.left source.new) (W.taken sink.old) (W.taken sink.new) }
     ensures done { result.0 ≡ Status.Done → IsAtEnd (S.left source.new) }
 
     // Each other status has its cause.

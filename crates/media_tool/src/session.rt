@@ -57,8 +57,8 @@ fn answer_line<W: Sink, K: Keeper, L: Ledger>(
     steps: &mut Steps<L>,
 ) -> Result<(), Failed>
     ensures cause { HasCause (W.faults sink.old) (W.faults sink.new) failed result }
-    ensures sent { LineSent (state_of K.kept K.faults library.old) line.now (state_of K.kept K.faults library.new)
-        (W.taken sink.old) (W.taken sink.new) result }
+    ensures sent { LineSent (state_of K.kept K.faults library.old) line.now
+        (state_of K.kept K.faults library.new) (W.taken sink.old) (W.taken sink.new) result }
 {
     let reply = reply_to(alloc, library, line, steps);
     write_reply_line(&reply, sink)
@@ -118,8 +118,10 @@ impl<K: Keeper> Session<K> {
         ensures write { result ≡ Status.WriteFault → Rose (W.faults sink.old) (W.faults sink.new) }
         ensures either { (result ≡ Status.Done) ⊎ (result ≡ Status.WriteFault) }
         ensures ends { (opening : State) (given : List ℕ) (taken : Option (List ℕ))
-            → FedKept opening [] given (state_of K.kept K.faults self.old.library) self.old.line.items taken (W.taken sink.old)
-            → Played result opening (state_of K.kept K.faults self.new.library) given taken (W.taken sink.new) }
+            → FedKept opening [] given (state_of K.kept K.faults self.old.library) self.old.line.items
+            taken (W.taken sink.old)
+            → Played result opening (state_of K.kept K.faults self.new.library)
+            given taken (W.taken sink.new) }
     {
         if self.line.is_empty() {
             return Status::Done;
@@ -190,8 +192,8 @@ impl<K: Keeper> Session<K> {
     ) -> Result<(), Failed>
         ensures cause { HasCause (W.faults sink.old) (W.faults sink.new) failed result }
         ensures sent { (line : List ℕ) → self.old.line.items ≡ kept_of line
-            → LineSent (state_of K.kept K.faults self.old.library) line (state_of K.kept K.faults self.new.library)
-            (W.taken sink.old) (W.taken sink.new) result }
+            → LineSent (state_of K.kept K.faults self.old.library) line
+            (state_of K.kept K.faults self.new.library) (W.taken sink.old) (W.taken sink.new) result }
         ensures empty { OnOk result (self.new.line.items ≡ []) }
         ensures same { OnErr result (self.new.line.items ≡ self.old.line.items) }
     {
