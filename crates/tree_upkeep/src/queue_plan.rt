@@ -1,0 +1,20 @@
+use media_types::FileNo;
+use std::marker::Model;
+
+/// Another queue that is planned and not put in place yet. Dropping it is giving it up.
+#[derive(Debug, Drop)]
+pub struct QueuePlan {
+    pub(crate) files: Vec<FileNo>,
+}
+
+impl Model for QueuePlan {
+    ghost use Rattle.std.specs.Prelude.{List};
+    ghost use Rattle.media_types.specs.declared.numbers.FileNo.{FileNo};
+    ghost use Rattle.tree_upkeep.specs.Queue.{Ascend};
+
+    ghost Value = { List FileNo };
+
+    ghost view = { λ plan. plan.files.items };
+
+    ghost invariant = { λ plan. Ascend plan.files.items };
+}
