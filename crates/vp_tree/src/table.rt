@@ -82,6 +82,7 @@ impl NodeTable {
     pub fn reserve_one(&mut self) -> Result<(), NoMemory>
         ensures rows { self.new.rows ≡ self.old.rows }
         ensures ok { OnOk result (1 ≤ self.new.spare) }
+        ensures spare { self.old.spare ≤ self.new.spare }
     {
         self.nodes.reserve(1)?;
         self.counts.reserve(1)?;

@@ -74,6 +74,7 @@ impl Tree {
         ensures rows { self.new.rows ≡ self.old.rows }
         ensures plan { IfOk result (λ plan. plan.word ≡ word) }
         ensures ready { OnOk result (CanTake self.new word) }
+        ensures spare { self.old.spare ≤ self.new.spare }
     {
         self.table.reserve_one()?;
         Ok(InsertPlan { word })
