@@ -1,4 +1,4 @@
-ghost use Rattle.std.specs.Prelude.{◌≡◌, ◌≢◌, ◌⊎◌, ◌+◌, ◌<◌, ◌≤◌, true, false, Some, Ok};
+ghost use Rattle.std.specs.Prelude.{◌≡◌, ◌≢◌, ◌⊎◌, ◌+◌, ◌<◌, ◌≤◌, true, false, Some, None, Ok};
 ghost use Rattle.media_types.specs.Cause.{Rose};
 ghost use Rattle.media_base.specs.Keeping.{Readings};
 ghost use Rattle.media_base.specs.declared.change.Change.{Change as ChangeValue};
@@ -37,8 +37,8 @@ impl<K: Keeper> Library<K> {
     /// keeper first; it is committed only once it is kept.
     ///
     /// A known file is found without a walk over the files. Decisions, undoings and questions of relations
-    /// take time in proportion to the files; an undoing makes all standing decisions anew. `steps` counts
-    /// what is read through tables that count.
+    /// take time in proportion to the files, and relations to the not-related pairs too; an undoing makes all
+    /// standing decisions anew. `steps` counts what is read through tables that count.
     pub fn answer<L: Ledger>(
         &mut self,
         caller: Caller,
@@ -69,6 +69,8 @@ impl<K: Keeper> Library<K> {
         ensures used { (change : ChangeValue)
             → (machine.step self.old.records caller command.now).change ≡ Some change → is_refused result ≡ false
             → K.used self.new.keeper ≡ K.used self.old.keeper + K.units self.old.keeper change }
+        ensures told_used { (machine.step self.old.records caller command.now).change ≡ None
+            → K.used self.new.keeper ≡ K.used self.old.keeper }
         ensures same_used { (why : Refusal) → result ≡ Reply.Refused why → K.used self.new.keeper ≡ K.used self.old.keeper }
 
         ensures later { K.faults self.old.keeper ≤ K.faults self.new.keeper }

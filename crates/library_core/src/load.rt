@@ -137,6 +137,10 @@ impl<K: Keeper> Library<K> {
             → IfErr result (λ fail. (n : ℕ) → fail.0 ≢ LoadFail.BadStore n) }
         ensures never_alien { (readings : Readings) → K.kept self.keeper ≡ Some readings
             → IfErr result (λ fail. fail.0 ≢ LoadFail.AlienStore) }
+        ensures kept { IfOk result (λ library. K.kept library.keeper ≡ K.kept self.keeper) }
+        ensures kept_fail { IfErr result (λ fail. K.kept fail.1 ≡ K.kept self.keeper) }
+        ensures later { IfOk result (λ library. K.faults self.keeper ≤ K.faults library.keeper) }
+        ensures later_fail { IfErr result (λ fail. K.faults self.keeper ≤ K.faults fail.1) }
         ensures store { IfErr result (λ fail. fail.0 ≡ LoadFail.StoreFault
             → Rose (K.faults self.keeper) (K.faults fail.1)) }
     {

@@ -2,6 +2,7 @@
 //! of the bytes that pass through them.
 
 ghost use Rattle.std.specs.Prelude.{◌≡◌, ◌<◌, length, None};
+ghost use Rattle.std.specs.Io.KnownBytes.{ReadConsumes, WriteAppends};
 ghost use Rattle.media_types.specs.Cause.{HasCause, failed};
 ghost use Rattle.media_base.specs.Transfer.{Reads, Writes};
 
@@ -31,8 +32,13 @@ impl<R: Read + Drop> Source for StdSource<R> {
 
     ghost left = { λ _. None };
 
-    /// An interrupted read is tried again.
-    fn read(&mut self, into: &mut [u8]) -> Result<usize, Failed> {
+    /// An interrupted read is tried again. What the reader gives is passed on, where it tells that.
+    fn read(&mut self, into: &mut [u8]) -> Result<usize, Failed>
+        requires { 0 < length into.old }
+        ensures cause { HasCause self.old.faults self.new.faults failed result }
+        ensures reads { Reads None None into.new result }
+        ensures bytes { ReadConsumes (R.remaining self.old.reader) (R.remaining self.new.reader) result into.new }
+    {
         for _ in 0..u64::MAX {
             match self.reader.read(into) {
                 Ok(count) => return Ok(count),
@@ -68,8 +74,13 @@ impl<W: Write + Drop> Sink for StdSink<W> {
 
     ghost taken = { λ _. None };
 
-    /// An interrupted write is tried again. A writer that takes nothing of a piece has failed.
-    fn write(&mut self, piece: &[u8]) -> Result<usize, Failed> {
+    /// An interrupted write is tried again. A writer that takes nothing of a piece has failed. The writer gets
+    /// what the sink says that it took, where the writer tells that.
+    fn write(&mut self, piece: &[u8]) -> Result<usize, Failed>
+        ensures cause { HasCause self.old.faults self.new.faults failed result }
+        ensures writes { Writes None None piece.now result }
+        ensures bytes { WriteAppends (W.contents self.old.writer) (W.contents self.new.writer) result piece.now }
+    {
         for _ in 0..u64::MAX {
             match self.writer.write(piece) {
                 Ok(0) if !piece.is_empty() => break,
