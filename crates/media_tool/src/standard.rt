@@ -1,5 +1,5 @@
-//! The adapters over the standard streams: the trusted edge. They tell no content, so no contract speaks
-//! of the bytes that pass through them.
+//! The adapters over the standard streams: the trusted edge. They tell no content of their own; their
+//! contracts say that they pass on what a stream tells, and the system's streams tell nothing.
 
 ghost use Rattle.std.specs.Prelude.{◌≡◌, ◌<◌, length, None};
 ghost use Rattle.std.specs.Io.KnownBytes.{ReadConsumes, WriteAppends};
