@@ -1,2 +1,4 @@
+pub mod Batch
 pub mod Cause
 pub mod Distance
+pub mod Numbered

@@ -7,7 +7,8 @@ use Rattle.std.specs.Cmp.{IsTotalOrder, Equal-is, alike_right, tied_itself, eq_b
 use Rattle.std.specs.List.{Contains, AllByRecursion}
 use Rattle.std.specs.List.Sorted.{IsStrictlySortedBy}
 use Rattle.std.specs.Map.{keys_of, remove_entry}
-use Rattle.std.specs.Option.{is_some}
+use Rattle.std.specs.Bool.{OnFalse}
+use Rattle.std.specs.Option.{OnSome, is_some}
 use Rattle.std.specs.Ordering.{is_eq}
 use Rattle.std.specs.Set.{remove_key}
 use Rattle.std.specs.declared.cmp.Ordering.{Ordering}
@@ -148,3 +149,9 @@ module _ {K V : Type 0} {R : K → K → Ordering} (order : IsTotalOrder R) wher
     pub new_or_known : (key : K) (rows : List (K × V)) (old : Option V) (new : Bool) → is_some old ≡ not new → old ≡ value_of R rows key → MatchBool new (¬ (Contains (keys_of rows) key)) (Contains (keys_of rows) key)
     new_or_known key rows old true none is = λ member. false≢true (sym none ∙ ap is_some is ∙ value_from_member key rows member)
     new_or_known key rows old false some is = member_from_value key rows (sym (ap is_some is) ∙ some)
+
+-- what holds where the key had a value holds where it isn't new
+pub known_from_old : {V : Type 0} (P : Type 0) (old : Option V) (new : Bool) → is_some old ≡ not new → OnSome old P → OnFalse new P
+known_from_old P old true is held = tt
+known_from_old P (Some value) false is held = held
+known_from_old P None false is held = absurd (false≢true is)

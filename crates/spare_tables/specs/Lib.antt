@@ -1,4 +1,5 @@
 pub mod Keys
 pub mod Order
+pub mod Pairs
 pub mod Places
 pub mod Table

@@ -6,11 +6,13 @@ mod key;
 mod map;
 mod rows;
 mod set;
+mod theorems;
 
 pub use key::Key;
 pub use map::KeyMap;
 pub use rows::Rows;
 pub use set::KeySet;
+pub use theorems::pair_laws;
 
 /// Sorted pairs.
 pub type PairSet = KeySet<(u32, u32)>;

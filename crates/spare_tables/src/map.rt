@@ -83,6 +83,28 @@ impl<K: Key, V: Copy> KeyMap<K, V> {
         }
     }
 
+    /// Takes a key out, and gives the value that it had. Each later row moves by a place.
+    pub fn take(&mut self, key: K) -> Option<V>
+        ensures old { result ≡ value_of K.cmp self.old.rows key }
+        ensures rows { self.new.rows ≡ without_row K.cmp self.old.rows key }
+        ensures this { value_of K.cmp self.new.rows key ≡ None }
+        ensures others { (k : K) → k ≢ key
+            → value_of K.cmp self.new.rows k ≡ value_of K.cmp self.old.rows k }
+        ensures sorted { IsStrictlySortedBy K.cmp (keys_of self.new.rows) }
+        ensures spare { self.old.spare ≤ self.new.spare }
+
+        // The room of what goes stays.
+        ensures room { length self.old.rows + self.old.spare ≤ length self.new.rows + self.new.spare }
+    {
+        match self.place(key) {
+            Ok(at) => {
+                let row = self.rows.remove(at);
+                Some(row.1)
+            }
+            Err(_) => None,
+        }
+    }
+
     /// Takes a key and its value out, and tells whether it was there. Each later row moves by a place.
     pub fn remove(&mut self, key: K) -> bool
         ensures there { IsTrue result ↔ Contains (keys_of self.old.rows) key }
@@ -93,14 +115,11 @@ impl<K: Key, V: Copy> KeyMap<K, V> {
             → value_of K.cmp self.new.rows k ≡ value_of K.cmp self.old.rows k }
         ensures sorted { IsStrictlySortedBy K.cmp (keys_of self.new.rows) }
         ensures spare { self.old.spare ≤ self.new.spare }
+
+        // The room of what goes stays.
+        ensures room { length self.old.rows + self.old.spare ≤ length self.new.rows + self.new.spare }
     {
-        match self.place(key) {
-            Ok(at) => {
-                self.rows.remove(at);
-                true
-            }
-            Err(_) => false,
-        }
+        self.take(key).is_some()
     }
 
     /// The number of rows. A caller that sees the rows alone learns here that they are sorted.
@@ -109,6 +128,14 @@ impl<K: Key, V: Copy> KeyMap<K, V> {
         ensures sorted { IsStrictlySortedBy K.cmp (keys_of self.now.rows) }
     {
         self.rows.len() as u64
+    }
+
+    /// All rows, in the order of their keys. Walking them is not counted.
+    pub fn as_slice(&self) -> &[(K, V)]
+        ensures rows { result.now ≡ self.now.rows }
+        ensures sorted { IsStrictlySortedBy K.cmp (keys_of self.now.rows) }
+    {
+        self.rows.as_slice()
     }
 
     /// Whether the key has a value. It counts as one read.

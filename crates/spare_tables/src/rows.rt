@@ -99,6 +99,9 @@ impl<T> Rows<T> {
         T: Drop,
         ensures rows { self.new.rows ≡ take n self.old.rows }
         ensures spare { self.old.spare ≤ self.new.spare }
+
+        // The room of what goes stays.
+        ensures room { length self.old.rows + self.old.spare ≤ length self.new.rows + self.new.spare }
     {
         self.rows.truncate(n as usize);
     }

@@ -75,6 +75,9 @@ impl<K: Key> KeySet<K> {
             ↔ (Contains self.old.rows k × (k ≢ key)) }
         ensures sorted { IsStrictlySortedBy K.cmp self.new.rows }
         ensures spare { self.old.spare ≤ self.new.spare }
+
+        // The room of what goes stays.
+        ensures room { length self.old.rows + self.old.spare ≤ length self.new.rows + self.new.spare }
     {
         self.map.remove(key)
     }

@@ -9,3 +9,7 @@ returns-clause-there g c =
       λ yes. member_from_value g.met.K.Ord.total g.met.K.Key.exact c.args.key c.args.self.now.rows (sym found ∙ yes),
       λ member. found ∙ value_from_member g.met.K.Ord.total g.met.K.Key.exact c.args.key c.args.self.now.rows member,
     )
+
+-- one read, of `get`
+pub returns-clause-steps : goal.returns-clause-steps
+returns-clause-steps g c = c.get.ensures.steps
