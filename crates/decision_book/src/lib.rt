@@ -4,10 +4,11 @@
 mod book;
 mod decision_row;
 mod standing;
+mod theorems;
 
 pub use book::Book;
 pub use decision_row::DecisionRow;
-pub use standing::standing_decisions;
+pub use theorems::laws;
 
 #[cfg(test)]
 mod tests;

@@ -1,6 +1,7 @@
 ghost use Rattle.std.specs.Prelude.{◌≡◌, ◌<◌};
 
 use super::*;
+use crate::standing::standing_decisions;
 use media_types::{Code, Decision, DecisionNo, FileNo, MAX_FILES, NoMemory, Steps};
 use std::alloc::Global;
 use std::marker::Brand;

@@ -1,4 +1,5 @@
 pub mod Closed
+pub mod Counts
 pub mod Firsts
 pub mod Folds
 pub mod Leaving
@@ -12,3 +13,4 @@ pub mod Readings
 pub mod Sound
 pub mod Splits
 pub mod Steps
+pub mod Writes

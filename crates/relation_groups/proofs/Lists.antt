@@ -5,7 +5,7 @@ use Rattle.std.proofs.lemmas.List.FromFn.{filter_of_map_range_with_len_more}
 use Rattle.media_types.specs.declared.numbers.FileNo.{FileNo}
 use Rattle.relation_groups.specs.Relations.{files}
 
-abbrev file : ℕ → FileNo
+abbrev pub file : ℕ → FileNo
 file n = record { 0 = n }
 
 files_more : (p : FileNo → Bool) (n : ℕ)

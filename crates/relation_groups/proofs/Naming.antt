@@ -1,7 +1,7 @@
 -- Labels become the names of their classes.
-use Rattle.std.proofs.Common.{◌≡◌, ◌∙◌, ℕ, suc, ◌+◌, ◌<◌, ◌≤◌, ◌==◌, ◌&&◌, ◌||◌, not, Bool, true, false, cond, List, [], ◌∷◌, length, get_or, map, filter, All, zero-add, refl, sym, ap, arith}
+use Rattle.std.proofs.Common.{◌≡◌, ◌∙◌, ℕ, suc, ◌+◌, ◌<◌, ◌≤◌, ◌==◌, ◌&&◌, ◌||◌, not, Bool, true, false, cond, List, [], ◌∷◌, length, get_or, map, filter, All, zero-add, ⊎_elim, refl, sym, ap, arith}
 use Rattle.std.proofs.Math.ListN.{set}
-use Rattle.std.proofs.lemmas.Bool.{false≢true}
+use Rattle.std.proofs.lemmas.Bool.{true≢false, false≢true, eq-eqb, false_from_ne_true, le-ltb, lt-ltb, ltb-false, ltb-true, not-true, or_cases}
 use Rattle.std.proofs.lemmas.Bool.Decides.{nat_tests, Decides-eqb, same_from_decides}
 use Rattle.std.proofs.lemmas.List.{get_or-map, length-map}
 use Rattle.std.proofs.lemmas.Grind.{common_steps}
@@ -17,7 +17,7 @@ use Rattle.relation_groups.proofs.Closed.{outside-split, patched-is}
 use Rattle.relation_groups.proofs.Firsts.{first_from-le, first_from-none, first_from-inside, first_from-ext, first_from-more}
 use Rattle.relation_groups.proofs.Readings.{at-within, at-past, class-le}
 use Rattle.relation_groups.proofs.Splits.{agree-trans, by_code-split, by_code-apart}
-use Rattle.relation_groups.proofs.Steps.{get_or-set}
+use Rattle.relation_groups.proofs.Writes.{get_or-set}
 
 -- relations of the first files that agree on these
 pub same-of_first : (n : ℕ) (P Q : Relations) → IsOfFirst n P → IsOfFirst n Q → AgreeIn (is_below n) P Q → P ≡ Q
@@ -28,43 +28,25 @@ same-of_first n P Q p q h =
 is_of-below : (n c d : ℕ) (p : ℕ × ℕ) → (p.0 < n) × (p.1 < n) → is_of p c d ≡ true → (c < n) × (d < n)
 is_of-below n c d p h e = (grind (arith, nat_tests), grind (arith, nat_tests))
 
-or-cases : (s t : Bool) (P : Type 0) → (s || t) ≡ true → (s ≡ true → P) → (t ≡ true → P) → P
-or-cases true t P e h k = h refl
-or-cases false t P e h k = k e
-
 has-below : (n c d : ℕ) (ps : List (ℕ × ℕ)) → All (λ p. (p.0 < n) × (p.1 < n)) ps → has ps c d ≡ true → (c < n) × (d < n)
 has-below n c d [] h e = absurd (false≢true e)
 has-below n c d (p ∷ ps) h e =
-    or-cases (is_of p c d) (has ps c d) ((c < n) × (d < n)) e
-    (is_of-below n c d p (h 0 p (omega arith)))
-    (has-below n c d ps (λ k x hk. h (suc k) x (omega (arith, hk))))
-
-pub below-true : (n f : ℕ) → f < n → is_below n f ≡ true
-below-true n f h = grind (arith, nat_tests)
-
-below-false : (n f : ℕ) → n ≤ f → is_below n f ≡ false
-below-false n f h = grind (arith, nat_tests)
-
-below-tells : (n f : ℕ) → is_below n f ≡ true → f < n
-below-tells n f h = grind (arith, nat_tests)
+    ⊎_elim (is_of-below n c d p (h 0 p (omega arith)))
+    (has-below n c d ps (λ k x hk. h (suc k) x (omega (arith, hk)))) (or_cases (is_of p c d) (has ps c d) e)
 
 past-tells : (n f : ℕ) → outside (is_below n) f ≡ true → n ≤ f
-past-tells n f h = grind (arith, nat_tests)
-
-false-if : (v : Bool) → (v ≡ true → true ≡ false) → v ≡ false
-false-if true h = h refl
-false-if false h = refl
+past-tells n f h = ltb-false f n (not-true (is_below n f) h)
 
 -- a number of a list below n stays on its side of n
 at-side : (n : ℕ) (xs : List ℕ) (f : ℕ) → length xs ≡ n → ((k : ℕ) → k < n → at xs k < n) → is_below n (at xs f) ≡ is_below n f
 at-side n xs f len h = grind (arith, nat_tests, at-past xs f, h f)
 
 -- what is read from lists for the first n files is of these alone
-pub read-of_first : (n : ℕ) (ks cs : List ℕ) (ps : List (ℕ × ℕ)) (room : ℕ) → length ks ≡ n → length cs ≡ n
+pub read-of_first : (n : ℕ) (ks cs : List ℕ) (ps : List (ℕ × ℕ)) (spare : ℕ) → length ks ≡ n → length cs ≡ n
     → ((k : ℕ) → k < n → at ks k < n) → ((k : ℕ) → k < n → at cs k < n) → All (λ p. (p.0 < n) × (p.1 < n)) ps
-    → IsOfFirst n (relations_in (record { kings = ks; classes = cs; pairs = ps; room = room }))
+    → IsOfFirst n (relations_in (record { kings = ks; classes = cs; pairs = ps; spare = spare }))
 unfolding relations_in
-read-of_first n ks cs ps room hk hc king class pair =
+read-of_first n ks cs ps spare hk hc king class pair =
     let side : (f : ℕ) → is_below n (at cs f) ≡ is_below n f = λ f. at-side n cs f hc class in
     let past : (f : ℕ) → outside (is_below n) f ≡ true → at cs f ≡ f = λ f p. at-past cs f (let le = past-tells n f p in omega (arith, le, hc)) in
     record {
@@ -73,35 +55,32 @@ read-of_first n ks cs ps room hk hc king class pair =
         classes = λ f g e. sym (side f) ∙ ap (is_below n) ((Decides-eqb (at cs f) (at cs g)).0 e) ∙ side g;
         pairs = λ f g e.
             let b = has-below n (at cs f) (at cs g) ps pair e in
-            sym (side f) ∙ below-true n (at cs f) b.0 ∙ sym (below-true n (at cs g) b.1) ∙ side g;
+            sym (side f) ∙ lt-ltb (at cs f) n b.0 ∙ sym (lt-ltb (at cs g) n b.1) ∙ side g;
       };
       rest = record {
         kings = λ f p. at-past ks f (let le = past-tells n f p in omega (arith, le, hk));
         classes = λ f g p q. rw (past f p, past g q) refl;
-        pairs = λ f g p q. false-if (has ps (at cs f) (at cs g)) (λ e.
+        pairs = λ f g p q. false_from_ne_true (has ps (at cs f) (at cs g)) (λ e.
             let b = has-below n (at cs f) (at cs g) ps pair e in
-            let s = past f p in let le = past-tells n f p in absurd (omega (arith, s, le, b.0)));
+            let s = past f p in let le = past-tells n f p in omega (arith, s, le, b.0));
       };
     }
 
 -- a file that isn't one of the first names its own class
 past-alike : (n f g : ℕ) (t : Bool) (R : Relations) → IsOfFirst n R → n ≤ f → g < f → is_below n g ≡ t → R.alike f g ≡ false
 past-alike n f g true R h le lt e =
-    false-if (R.alike f g) (λ p. sym e ∙ sym (h.split.classes f g p) ∙ below-false n f le)
-past-alike n f g false R h le lt e = h.rest.classes f g (ap not (below-false n f le)) (ap not e) ∙ (grind (arith, nat_tests))
+    false_from_ne_true (R.alike f g) (λ p. true≢false (sym e ∙ sym (h.split.classes f g p) ∙ le-ltb f n le))
+past-alike n f g false R h le lt e = h.rest.classes f g (ap not (le-ltb f n le)) (ap not e) ∙ (grind (arith, nat_tests))
 
 past-class : (n f : ℕ) (R : Relations) → IsOfFirst n R → n ≤ f → class_of R f ≡ f
 past-class n f R h le = first_from-none (R.alike f) 0 f (λ g l u. past-alike n f g (is_below n g) R h le (omega (arith, u)) refl) ∙ zero-add f
-
-eq-refl : (l : ℕ) → (l == l) ≡ true
-eq-refl l = grind (arith, nat_tests)
 
 -- the name of a label that a file has
 least-first : (ls : List ℕ) (f : ℕ) → f < length ls
     → least_place ls (get_or ls f 0) ≡ first_from (λ g. get_or ls f 0 == get_or ls g 0) 0 f
 least-first ls f h =
     first_from-more (λ g. get_or ls f 0 == get_or ls g 0) 0 f (length ls) h
-    (let e : 0 + f ≡ f = omega arith in ap (λ k. get_or ls f 0 == get_or ls k 0) e ∙ eq-refl (get_or ls f 0))
+    (let e : 0 + f ≡ f = omega arith in ap (λ k. get_or ls f 0 == get_or ls k 0) e ∙ eq-eqb (get_or ls f 0) (get_or ls f 0) refl)
 
 least-le : (ls : List ℕ) (f : ℕ) → f < length ls → least_place ls (get_or ls f 0) ≤ f
 least-le ls f h =
@@ -131,16 +110,16 @@ below-is_of : (n : ℕ) (p : ℕ × ℕ) (c d : ℕ) → c < n → d < n → (ar
 below-is_of n p c d hc hd = grind (arith, nat_tests)
 
 -- what is read for the first n files, place by place
-agree-named : (n : ℕ) (ks cs : List ℕ) (qs : List (ℕ × ℕ)) (room : ℕ) (R : Relations)
+agree-named : (n : ℕ) (ks cs : List ℕ) (qs : List (ℕ × ℕ)) (spare : ℕ) (R : Relations)
     → ((f : ℕ) → f < n → at ks f ≡ R.king f)
     → ((f g : ℕ) → f < n → g < n → (at cs f == at cs g) ≡ R.alike f g)
     → ((f g : ℕ) → f < n → g < n → has qs (at cs f) (at cs g) ≡ R.unrelated f g)
-    → AgreeIn (is_below n) (relations_in (record { kings = ks; classes = cs; pairs = qs; room = room })) R
+    → AgreeIn (is_below n) (relations_in (record { kings = ks; classes = cs; pairs = qs; spare = spare })) R
 unfolding relations_in
-agree-named n ks cs qs room R k a u = record {
-  kings = λ f p. k f (below-tells n f p);
-  classes = λ f g p q. a f g (below-tells n f p) (below-tells n g q);
-  pairs = λ f g p q. u f g (below-tells n f p) (below-tells n g q);
+agree-named n ks cs qs spare R k a u = record {
+  kings = λ f p. k f (ltb-true f n p);
+  classes = λ f g p q. a f g (ltb-true f n p) (ltb-true g n q);
+  pairs = λ f g p q. u f g (ltb-true f n p) (ltb-true g n q);
 }
 
 -- the pairs, once each label got its name and those of no file were dropped
@@ -194,7 +173,7 @@ class-by_side : (n : ℕ) (ls cs : List ℕ) (R : Relations) → length ls ≡ n
     → ((f g : ℕ) → f < n → g < n → (get_or ls f 0 == get_or ls g 0) ≡ R.alike f g) → IsOfFirst n R
     → (f : ℕ) (t : Bool) → is_below n f ≡ t → at cs f ≡ class_of R f
 class-by_side n ls cs R hl hc least alike first f true e =
-    let lt : f < n = below-tells n f e in
+    let lt : f < n = ltb-true f n e in
     least f lt ∙ least-first ls f (omega (arith, lt, hl))
     ∙ first_from-ext (λ g. get_or ls f 0 == get_or ls g 0) (R.alike f) 0 f (λ g l u. alike f g lt (omega (arith, u, lt)))
 class-by_side n ls cs R hl hc least alike first f false e =
@@ -217,12 +196,12 @@ named-reads n ks ls names ps next few hk hl hn least R h first =
     let same : (k f : ℕ) → k < next → f < n → (at names k == at names (get_or ls f 0)) ≡ (k == get_or ls f 0) =
     λ k f hk hf. rw (name k hk, name (get_or ls f 0) (h.label f hf)) (least-same ls k f (omega (arith, hf, hl))) in
     let king : (f : ℕ) → f < n → at ks f < n =
-    λ f lt. below-tells n (at ks f)
-    (ap (is_below n) (at-within ks f (omega (arith, lt, hk)) ∙ h.king f lt) ∙ first.split.kings f ∙ below-true n f lt) in
+    λ f lt. ltb-true (at ks f) n
+    (ap (is_below n) (at-within ks f (omega (arith, lt, hk)) ∙ h.king f lt) ∙ first.split.kings f ∙ lt-ltb f n lt) in
     let name_below : (f : ℕ) → f < n → at names (get_or ls f 0) < n =
     λ f lt. let e = class f lt in let b = class_le f lt in omega (arith, e, b, lt) in
-    let agree : (room : ℕ) → AgreeIn (is_below n) (relations_in (record { kings = ks; classes = cs; pairs = qs; room = room })) R = λ room.
-    agree-named n ks cs qs room R
+    let agree : (spare : ℕ) → AgreeIn (is_below n) (relations_in (record { kings = ks; classes = cs; pairs = qs; spare = spare })) R = λ spare.
+    agree-named n ks cs qs spare R
     (λ f lt. at-within ks f (omega (arith, lt, hk)) ∙ h.king f lt)
     (λ f g hf hg. rw (class f hf, class g hg) (same (get_or ls f 0) g (h.label f hf) hg ∙ h.alike f g hf hg))
     (λ f g hf hg. rw (class f hf, class g hg)
@@ -231,10 +210,10 @@ named-reads n ks ls names ps next few hk hl hn least R h first =
     let b = h.pair k x hx in
     (same (get_or ps k x).0 f b.0 hf, same (get_or ps k x).1 f b.1 hf, same (get_or ps k x).0 g b.0 hg, same (get_or ps k x).1 g b.1 hg))
     ∙ h.unrelated f g hf hg)) in
-    let read : (room : ℕ) → relations_in (record { kings = ks; classes = cs; pairs = qs; room = room }) ≡ R = λ room.
-    same-of_first n (relations_in (record { kings = ks; classes = cs; pairs = qs; room = room })) R
-    (read-of_first n ks cs qs room hk hc king (λ f lt. let b = class_le f lt in omega (arith, b, lt)) (AreBelow-kept n (map (pair_at names) ps)))
-    first (agree room) in
+    let read : (spare : ℕ) → relations_in (record { kings = ks; classes = cs; pairs = qs; spare = spare }) ≡ R = λ spare.
+    same-of_first n (relations_in (record { kings = ks; classes = cs; pairs = qs; spare = spare })) R
+    (read-of_first n ks cs qs spare hk hc king (λ f lt. let b = class_le f lt in omega (arith, b, lt)) (AreBelow-kept n (map (pair_at names) ps)))
+    first (agree spare) in
     let class_at : (f : ℕ) (t : Bool) → is_below n f ≡ t → at cs f ≡ class_of R f =
     class-by_side n ls cs R (omega (arith, hl)) hc class_least (λ f g hf hg. h.alike f g hf hg) first in
     record {
@@ -257,14 +236,14 @@ named-reads n ks ls names ps next few hk hl hn least R h first =
 pub least-step : (ls places : List ℕ) (k m n : ℕ) → get_or ls k 0 < length places
     → get_or places m 0 ≡ first_from (λ g. m == get_or ls g 0) (suc k) n
     → get_or (set places (get_or ls k 0) k) m 0 ≡ first_from (λ g. m == get_or ls g 0) k (suc n)
-least-step ls places k m n h e = get_or-set places (get_or ls k 0) k m h ∙ ap (cond (m == get_or ls k 0) k) e
+least-step ls places k m n h e = get_or-set places (get_or ls k 0) k m 0 h ∙ ap (cond (m == get_or ls k 0) k) e
 
 -- lists in order hold what is read from them
-pub order-holds : (ks cs : List ℕ) (ps : List (ℕ × ℕ)) (room n : ℕ) → length ks ≡ n → AreInOrder ks cs ps
-    → AreKept n ks cs ps n (relations_in (record { kings = ks; classes = cs; pairs = ps; room = room }))
-    × IsOfFirst n (relations_in (record { kings = ks; classes = cs; pairs = ps; room = room }))
+pub order-holds : (ks cs : List ℕ) (ps : List (ℕ × ℕ)) (spare n : ℕ) → length ks ≡ n → AreInOrder ks cs ps
+    → AreKept n ks cs ps n (relations_in (record { kings = ks; classes = cs; pairs = ps; spare = spare }))
+    × IsOfFirst n (relations_in (record { kings = ks; classes = cs; pairs = ps; spare = spare }))
 unfolding relations_in
-order-holds ks cs ps room n hk h =
+order-holds ks cs ps spare n hk h =
     let hc : length cs ≡ n = h.one_each ∙ hk in
     let king : (f : ℕ) → f < n → at ks f ≡ get_or ks f 0 = λ f lt. at-within ks f (omega (arith, lt, hk)) in
     let class : (f : ℕ) → f < n → at cs f ≡ get_or cs f 0 = λ f lt. at-within cs f (omega (arith, lt, hc)) in
@@ -277,7 +256,7 @@ order-holds ks cs ps room n hk h =
         label = λ f lt. let e = class f lt in let b = class_below f lt in omega (arith, e, b);
         pair = pair;
       },
-      read-of_first n ks cs ps room hk hc
+      read-of_first n ks cs ps spare hk hc
           (λ f lt. let e = king f lt in let b = h.king f 0 (omega (arith, lt, hk)) in omega (arith, e, b, hk)) class_below pair,
     )
 
@@ -285,8 +264,8 @@ order-holds ks cs ps room n hk h =
 pub decided-of_first : (n : ℕ) (code : Code) (a b : ℕ) (R : Relations) → a < n → b < n → IsOfFirst n R → IsOfFirst n (by_code code a b R)
 decided-of_first n code a b R ha hb h =
     let S : ℕ → Bool = is_below n in
-    let ta : S a ≡ true = below-true n a ha in
-    let tb : S b ≡ true = below-true n b hb in
+    let ta : S a ≡ true = lt-ltb a n ha in
+    let tb : S b ≡ true = lt-ltb b n hb in
     record {
       split = by_code-split code S a b R (ta ∙ sym tb) h.split;
       rest = agree-trans (outside S) (by_code code a b R) R at_first

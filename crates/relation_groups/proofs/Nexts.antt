@@ -1,26 +1,16 @@
 -- The first file of a list that passes a test.
-use Rattle.std.proofs.Common.{◌≡◌, ◌≢◌, ◌∙◌, ℕ, zero, suc, ◌+◌, ◌<◌, ◌≤◌, ◌&&◌, Bool, true, false, cond, Option, Some, None, map, refl, sym, ap, inl, inr, arith}
-use Rattle.std.proofs.lemmas.Bool.{false≢true}
+use Rattle.std.proofs.Common.{◌≡◌, ◌≢◌, ◌∙◌, ℕ, zero, suc, ◌+◌, ◌<◌, ◌≤◌, ◌&&◌, Bool, true, false, Option, Some, None, map, refl, sym, ap, inl, inr, arith}
+use Rattle.std.proofs.lemmas.Bool.{cond-false, cond-true}
 use Rattle.std.proofs.lemmas.Bool.Decides.{eqb_tells}
 use Rattle.std.specs.List.{find, range_with_len}
 use Rattle.media_types.specs.declared.numbers.FileNo.{FileNo}
 use Rattle.relation_groups.specs.Reading.{is_past, next_of}
-
-abbrev file : ℕ → FileNo
-file n = record { 0 = n }
-
-passed-over : (t : Bool) (x : FileNo) (rest : Option FileNo) → t ≡ false → cond t (Some x) rest ≡ rest
-passed-over true x rest e = absurd (false≢true (sym e))
-passed-over false x rest e = refl
-
-taken : (t : Bool) (x : FileNo) (rest : Option FileNo) → t ≡ true → cond t (Some x) rest ≡ Some x
-taken true x rest e = refl
-taken false x rest e = absurd (false≢true e)
+use Rattle.relation_groups.proofs.Lists.{file}
 
 find-none : (p : FileNo → Bool) (n k : ℕ) → ((g : ℕ) → k ≤ g → g < k + n → p (file g) ≡ false) → find p (map file (range_with_len k n)) ≡ None
 find-none p zero k h = refl
 find-none p (suc n) k h =
-    passed-over (p (file k)) (file k) (find p (map file (range_with_len (k + 1) n))) (h k (omega arith) (omega arith))
+    cond-false (p (file k)) (Some (file k)) (find p (map file (range_with_len (k + 1) n))) (h k (omega arith) (omega arith))
     ∙ find-none p n (k + 1) (λ g l u. h g (omega (arith, l)) (omega (arith, u)))
 
 find-first : (p : FileNo → Bool) (n k m : ℕ) → k ≤ m → m < k + n → ((g : ℕ) → k ≤ g → g < m → p (file g) ≡ false) → p (file m) ≡ true
@@ -30,10 +20,10 @@ find-first p (suc n) k m le lt h q =
     elim (eqb_tells k m) [
       | inl e ↦
           let at : k ≡ m = e.1 in
-          taken (p (file k)) (file k) (find p (map file (range_with_len (k + 1) n))) (ap (λ j. p (file j)) at ∙ q) ∙ ap (λ j. Some (file j)) at
+          cond-true (p (file k)) (Some (file k)) (find p (map file (range_with_len (k + 1) n))) (ap (λ j. p (file j)) at ∙ q) ∙ ap (λ j. Some (file j)) at
       | inr e ↦
           let ne : k ≢ m = e.1 in
-          passed-over (p (file k)) (file k) (find p (map file (range_with_len (k + 1) n))) (h k (omega arith) (omega (arith, le, ne)))
+          cond-false (p (file k)) (Some (file k)) (find p (map file (range_with_len (k + 1) n))) (h k (omega arith) (omega (arith, le, ne)))
           ∙ find-first p n (k + 1) m (omega (arith, le, ne)) (omega (arith, lt)) (λ g l u. h g (omega (arith, l)) u) q
     ]
 
@@ -46,6 +36,3 @@ pub next_of-first : (n : ℕ) (after : Option FileNo) (test : ℕ → Bool) (m :
     → (is_past after m && test m) ≡ true → Some (file m) ≡ next_of n after test
 next_of-first n after test m lt h q =
     sym (find-first (λ g. is_past after g.0 && test g.0) n 0 m (omega arith) (omega (arith, lt)) (λ g l u. h g u) q)
-
-pub both : (s t : Bool) → s ≡ true → t ≡ true → (s && t) ≡ true
-both s t p q = rw (p, q) refl

@@ -1,60 +1,37 @@
 -- Pairs that one list has and another lacks.
 use Rattle.std.proofs.Common.{◌≡◌, ◌≢◌, ◌∙◌, ℕ, zero, suc, ◌+◌, ◌<◌, ◌≤◌, ◌==◌, ◌&&◌, ◌||◌, not, Bool, true, false, cond, List, [], ◌∷◌, length, get_or, map, take, All, refl, sym, ap, inl, inr, arith}
+use Rattle.std.proofs.Math.Bool.{or-false, or_assoc}
 use Rattle.std.proofs.Math.ListN.{set, length-set}
-use Rattle.std.proofs.lemmas.Bool.{false≢true}
-use Rattle.std.proofs.lemmas.Bool.Decides.{nat_tests, Decides-eqb, eqb_tells}
-use Rattle.std.proofs.lemmas.Grind.{get_or-set_at}
-use Rattle.std.proofs.lemmas.List.{get_or-set_other, take_more}
+use Rattle.std.proofs.lemmas.Bool.{false≢true, and_from, and_parts, eqb-true, not-true, or_cases, or_left, or_right}
+use Rattle.std.proofs.lemmas.Bool.Decides.{nat_tests, eqb_tells, same_from_decides}
+use Rattle.std.proofs.lemmas.List.{take_more}
 use Rattle.std.proofs.lemmas.List.Folds.{list_any-append}
 use Rattle.std.specs.List.{list_any, range_with_len}
-use Rattle.media_types.specs.declared.numbers.FileNo.{FileNo}
 use Rattle.relation_groups.specs.Moves.{differ}
 use Rattle.relation_groups.specs.Numbers.{has, is_of, lacks}
 use Rattle.relation_groups.specs.Relations.{files}
-
-pub same-tests : (s t : Bool) → (s ≡ true → t ≡ true) → (t ≡ true → s ≡ true) → s ≡ t
-same-tests true t h k = sym (h refl)
-same-tests false true h k = k refl
-same-tests false false h k = refl
-
-or-left : (s t : Bool) → s ≡ true → (s || t) ≡ true
-or-left s t e = rw e refl
-
-or-right : (s t : Bool) → t ≡ true → (s || t) ≡ true
-or-right true t e = refl
-or-right false t e = e
-
-pub or-cases : (s t : Bool) (P : Type 0) → (s || t) ≡ true → (s ≡ true → P) → (t ≡ true → P) → P
-or-cases true t P e h k = h refl
-or-cases false t P e h k = k e
-
-pub and-both : (s t : Bool) → (s && t) ≡ true → (s ≡ true) × (t ≡ true)
-and-both true t e = (refl, e)
-and-both false t e = absurd (false≢true e)
-
-both-true : (s t : Bool) → s ≡ true → t ≡ true → (s && t) ≡ true
-both-true s t p q = rw (p, q) refl
-
-not-true : (t : Bool) → not t ≡ true → t ≡ false
-not-true true e = sym e
-not-true false e = refl
+use Rattle.relation_groups.proofs.Lists.{file}
+use Rattle.relation_groups.proofs.Writes.{get_or-set}
 
 -- either order
 is_of-sym : (p : ℕ × ℕ) (c d : ℕ) → is_of p c d ≡ is_of p d c
 is_of-sym p c d = grind (arith, nat_tests)
 
-has-sym : (ps : List (ℕ × ℕ)) (c d : ℕ) → has ps c d ≡ has ps d c
+pub has-sym : (ps : List (ℕ × ℕ)) (c d : ℕ) → has ps c d ≡ has ps d c
 has-sym [] c d = refl
 has-sym (p ∷ ps) c d = rw (is_of-sym p c d, has-sym ps c d) refl
 
 -- a pair of c and d is one that the others have exactly where they have c and d
 of-other : (p : ℕ × ℕ) (c d : ℕ) (qs : List (ℕ × ℕ)) → is_of p c d ≡ true → has qs p.0 p.1 ≡ has qs c d
 of-other p c d qs e =
-    or-cases (p.0 == c && p.1 == d) (p.1 == c && p.0 == d) (has qs p.0 p.1 ≡ has qs c d) e
-    (λ h. let b = and-both (p.0 == c) (p.1 == d) h in
-    let x : p.0 ≡ c = (Decides-eqb p.0 c).0 b.0 in let y : p.1 ≡ d = (Decides-eqb p.1 d).0 b.1 in rw (x, y) refl)
-    (λ h. let b = and-both (p.1 == c) (p.0 == d) h in
-    let x : p.1 ≡ c = (Decides-eqb p.1 c).0 b.0 in let y : p.0 ≡ d = (Decides-eqb p.0 d).0 b.1 in rw (x, y) (has-sym qs d c))
+    elim (or_cases (p.0 == c && p.1 == d) (p.1 == c && p.0 == d) e) [
+      | inl h ↦
+          let b = and_parts (p.0 == c) (p.1 == d) h in
+          rw (eqb-true p.0 c b.0, eqb-true p.1 d b.1) refl
+      | inr h ↦
+          let b = and_parts (p.1 == c) (p.0 == d) h in
+          rw (eqb-true p.1 c b.0, eqb-true p.0 d b.1) (has-sym qs d c)
+    ]
 
 of-touches : (p : ℕ × ℕ) (c d : ℕ) → is_of p c d ≡ true → (c == p.0 || c == p.1) ≡ true
 of-touches p c d e = grind (arith, nat_tests)
@@ -62,34 +39,35 @@ of-touches p c d e = grind (arith, nat_tests)
 lacks-if : (ps qs : List (ℕ × ℕ)) (c d : ℕ) → has ps c d ≡ true → has qs c d ≡ false → lacks ps qs c ≡ true
 lacks-if [] qs c d h k = absurd (false≢true h)
 lacks-if (p ∷ ps) qs c d h k =
-    or-cases (is_of p c d) (has ps c d) (lacks (p ∷ ps) qs c ≡ true) h
-    (λ e. or-left ((c == p.0 || c == p.1) && not (has qs p.0 p.1)) (lacks ps qs c)
-    (both-true (c == p.0 || c == p.1) (not (has qs p.0 p.1)) (of-touches p c d e) (ap not (of-other p c d qs e ∙ k))))
-    (λ e. or-right ((c == p.0 || c == p.1) && not (has qs p.0 p.1)) (lacks ps qs c) (lacks-if ps qs c d e k))
+    elim (or_cases (is_of p c d) (has ps c d) h) [
+      | inl e ↦
+          or_left ((c == p.0 || c == p.1) && not (has qs p.0 p.1)) (lacks ps qs c)
+          (and_from (c == p.0 || c == p.1) (not (has qs p.0 p.1)) (of-touches p c d e) (ap not (of-other p c d qs e ∙ k)))
+      | inr e ↦
+          or_right ((c == p.0 || c == p.1) && not (has qs p.0 p.1)) (lacks ps qs c) (lacks-if ps qs c d e k)
+    ]
 
 -- the other end of a pair of c
 other-end : (p : ℕ × ℕ) (c n : ℕ) → (p.0 < n) × (p.1 < n) → (c == p.0 || c == p.1) ≡ true → (d : ℕ) × ((d < n) × (is_of p c d ≡ true))
 other-end p c n b e =
-    or-cases (c == p.0) (c == p.1) ((d : ℕ) × ((d < n) × (is_of p c d ≡ true))) e
-    (λ h. (p.1, (b.1, grind (arith, nat_tests))))
-    (λ h. (p.0, (b.0, grind (arith, nat_tests))))
+    elim (or_cases (c == p.0) (c == p.1) e) [
+      | inl h ↦ (p.1, (b.1, grind (arith, nat_tests)))
+      | inr h ↦ (p.0, (b.0, grind (arith, nat_tests)))
+    ]
 
 lacks-tells : (ps qs : List (ℕ × ℕ)) (c n : ℕ) → All (λ p. (p.0 < n) × (p.1 < n)) ps → lacks ps qs c ≡ true
     → (d : ℕ) × ((d < n) × ((has ps c d ≡ true) × (has qs c d ≡ false)))
 lacks-tells [] qs c n b h = absurd (false≢true h)
 lacks-tells (p ∷ ps) qs c n b h =
-    or-cases ((c == p.0 || c == p.1) && not (has qs p.0 p.1)) (lacks ps qs c)
-    ((d : ℕ) × ((d < n) × ((has (p ∷ ps) c d ≡ true) × (has qs c d ≡ false)))) h
-    (λ e.
-    let two = and-both (c == p.0 || c == p.1) (not (has qs p.0 p.1)) e in
-    let end = other-end p c n (b 0 p (omega arith)) two.0 in
-    (end.0, (end.1.0, (or-left (is_of p c end.0) (has ps c end.0) end.1.1, sym (of-other p c end.0 qs end.1.1) ∙ not-true (has qs p.0 p.1) two.1))))
-    (λ e.
-    let later = lacks-tells ps qs c n (λ k x hk. b (suc k) x (omega (arith, hk))) e in
-    (later.0, (later.1.0, (or-right (is_of p c later.0) (has ps c later.0) later.1.1.0, later.1.1.1))))
-
-abbrev file : ℕ → FileNo
-file n = record { 0 = n }
+    elim (or_cases ((c == p.0 || c == p.1) && not (has qs p.0 p.1)) (lacks ps qs c) h) [
+      | inl e ↦
+          let two = and_parts (c == p.0 || c == p.1) (not (has qs p.0 p.1)) e in
+          let end = other-end p c n (b 0 p (omega arith)) two.0 in
+          (end.0, (end.1.0, (or_left (is_of p c end.0) (has ps c end.0) end.1.1, sym (of-other p c end.0 qs end.1.1) ∙ not-true (has qs p.0 p.1) two.1)))
+      | inr e ↦
+          let later = lacks-tells ps qs c n (λ k x hk. b (suc k) x (omega (arith, hk))) e in
+          (later.0, (later.1.0, (or_right (is_of p c later.0) (has ps c later.0) later.1.1.0, later.1.1.1)))
+    ]
 
 -- some number of a row of numbers passes
 any-of : (test : ℕ → Bool) (n k d : ℕ) → k ≤ d → d < k + n → test d ≡ true → list_any (λ f. test f.0) (map file (range_with_len k n)) ≡ true
@@ -97,18 +75,20 @@ any-of test zero k d le lt e = absurd (omega (arith, le, lt))
 any-of test (suc n) k d le lt e =
     elim (eqb_tells k d) [
       | inl h ↦
-          let at : k ≡ d = h.1 in or-left (test k) (list_any (λ f. test f.0) (map file (range_with_len (k + 1) n))) (ap test at ∙ e)
+          let at : k ≡ d = h.1 in or_left (test k) (list_any (λ f. test f.0) (map file (range_with_len (k + 1) n))) (ap test at ∙ e)
       | inr h ↦
           let ne : k ≢ d = h.1 in
-          or-right (test k) (list_any (λ f. test f.0) (map file (range_with_len (k + 1) n)))
+          or_right (test k) (list_any (λ f. test f.0) (map file (range_with_len (k + 1) n)))
           (any-of test n (k + 1) d (omega (arith, le, ne)) (omega (arith, lt)) e)
     ]
 
 any-tells : (test : ℕ → Bool) (n k : ℕ) → list_any (λ f. test f.0) (map file (range_with_len k n)) ≡ true → (d : ℕ) × (test d ≡ true)
 any-tells test zero k h = absurd (false≢true h)
 any-tells test (suc n) k h =
-    or-cases (test k) (list_any (λ f. test f.0) (map file (range_with_len (k + 1) n))) ((d : ℕ) × (test d ≡ true)) h
-    (λ e. (k, e)) (λ e. any-tells test n (k + 1) e)
+    elim (or_cases (test k) (list_any (λ f. test f.0) (map file (range_with_len (k + 1) n))) h) [
+      | inl e ↦ (k, e)
+      | inr e ↦ any-tells test n (k + 1) e
+    ]
 
 differ-cases : (s t : Bool) (P : Type 0) → differ s t ≡ true → (s ≡ true → t ≡ false → P) → (t ≡ true → s ≡ false → P) → P
 differ-cases true t P e h k = h refl (not-true t e)
@@ -128,24 +108,26 @@ pub differ-is_lacks : (n c : ℕ) (ps qs : List (ℕ × ℕ)) → All (λ p. (p.
     → list_any (λ d. differ (has ps c d.0) (has qs c d.0)) (files n) ≡ (lacks ps qs c || lacks qs ps c)
 differ-is_lacks n c ps qs hp hq =
     let test : ℕ → Bool = λ d. differ (has ps c d) (has qs c d) in
-    same-tests (list_any (λ d. differ (has ps c d.0) (has qs c d.0)) (files n)) (lacks ps qs c || lacks qs ps c)
-    (λ e.
+    let differs : Bool = list_any (λ d. differ (has ps c d.0) (has qs c d.0)) (files n) in
+    let lacking : Bool = lacks ps qs c || lacks qs ps c in
+    let there : differs ≡ true → lacking ≡ true = λ e.
     let w = any-tells test n 0 e in
-    differ-cases (has ps c w.0) (has qs c w.0) ((lacks ps qs c || lacks qs ps c) ≡ true) w.1
-    (λ h k. or-left (lacks ps qs c) (lacks qs ps c) (lacks-if ps qs c w.0 h k))
-    (λ h k. or-right (lacks ps qs c) (lacks qs ps c) (lacks-if qs ps c w.0 h k)))
-    (λ e.
-    or-cases (lacks ps qs c) (lacks qs ps c) (list_any (λ d. differ (has ps c d.0) (has qs c d.0)) (files n) ≡ true) e
-    (λ h. let w = lacks-tells ps qs c n hp h in any-of test n 0 w.0 (omega arith) (omega (arith, w.1.0)) (if-differ (has ps c w.0) (has qs c w.0) w.1.1.0 w.1.1.1))
-    (λ h.
-    let w = lacks-tells qs ps c n hq h in
-    any-of test n 0 w.0 (omega arith) (omega (arith, w.1.0))
-    (differ-sym (has ps c w.0) (has qs c w.0) ∙ if-differ (has qs c w.0) (has ps c w.0) w.1.1.0 w.1.1.1)))
+    differ-cases (has ps c w.0) (has qs c w.0) (lacking ≡ true) w.1
+    (λ h k. or_left (lacks ps qs c) (lacks qs ps c) (lacks-if ps qs c w.0 h k))
+    (λ h k. or_right (lacks ps qs c) (lacks qs ps c) (lacks-if qs ps c w.0 h k)) in
+    let back : lacking ≡ true → differs ≡ true = λ e.
+    elim (or_cases (lacks ps qs c) (lacks qs ps c) e) [
+      | inl h ↦
+          let w = lacks-tells ps qs c n hp h in
+          any-of test n 0 w.0 (omega arith) (omega (arith, w.1.0)) (if-differ (has ps c w.0) (has qs c w.0) w.1.1.0 w.1.1.1)
+      | inr h ↦
+          let w = lacks-tells qs ps c n hq h in
+          any-of test n 0 w.0 (omega arith) (omega (arith, w.1.0))
+          (differ-sym (has ps c w.0) (has qs c w.0) ∙ if-differ (has qs c w.0) (has ps c w.0) w.1.1.0 w.1.1.1)
+    ] in
+    same_from_decides differs lacking (there, back) (λ e. e, λ e. e)
 
 -- marks after one more pair
-get_or-set : (xs : List Bool) (x : ℕ) (v : Bool) (f : ℕ) → x < length xs → get_or (set xs x v) f false ≡ cond (f == x) v (get_or xs f false)
-get_or-set xs x v f h = grind (arith, nat_tests, get_or-set_at, get_or-set_other)
-
 mark-test : (b s t x : Bool) (m n : Bool) → (s ≡ true → m ≡ b) → (t ≡ true → n ≡ cond s (m || x) b)
     → cond t (n || x) (cond s (m || x) b) ≡ (b || ((s || t) && x))
 mark-test true true true x m n h k = rw (k refl, h refl) refl
@@ -165,20 +147,12 @@ pub mark-both : (marks : List Bool) (a b c : ℕ) (x : Bool) → a < length mark
 mark-both marks a b c x ha hb =
     let one : List Bool = set marks a (get_or marks a false || x) in
     let len : length one ≡ length marks = length-set _ _ _ in
-    let at : (f : ℕ) → get_or one f false ≡ cond (f == a) (get_or marks a false || x) (get_or marks f false) = λ f. get_or-set marks a (get_or marks a false || x) f ha in
-    get_or-set one b (get_or one b false || x) c (omega (arith, len, hb))
+    let at : (f : ℕ) → get_or one f false ≡ cond (f == a) (get_or marks a false || x) (get_or marks f false) = λ f. get_or-set marks a (get_or marks a false || x) f false ha in
+    get_or-set one b (get_or one b false || x) c false (omega (arith, len, hb))
     ∙ ap (λ v. cond (c == b) (get_or one b false || x) v) (at c)
     ∙ mark-test (get_or marks c false) (c == a) (c == b) x (get_or marks a false) (get_or one b false)
-    (λ e. let same : c ≡ a = (Decides-eqb c a).0 e in ap (λ f. get_or marks f false) (sym same))
-    (λ e. let same : c ≡ b = (Decides-eqb c b).0 e in ap (λ f. get_or one f false) (sym same) ∙ at c)
-
-or-none : (v : Bool) → (v || false) ≡ v
-or-none true = refl
-or-none false = refl
-
-or-assoc : (s t u : Bool) → ((s || t) || u) ≡ (s || (t || u))
-or-assoc true t u = refl
-or-assoc false t u = refl
+    (λ e. let same : c ≡ a = eqb-true c a e in ap (λ f. get_or marks f false) (sym same))
+    (λ e. let same : c ≡ b = eqb-true c b e in ap (λ f. get_or one f false) (sym same) ∙ at c)
 
 pub lacks_more : (ps qs : List (ℕ × ℕ)) (i c : ℕ) (d : ℕ × ℕ) (b : Bool) → i < length ps
     → ((b || lacks (take i ps) qs c) || ((c == (get_or ps i d).0 || c == (get_or ps i d).1) && not (has qs (get_or ps i d).0 (get_or ps i d).1)))
@@ -186,6 +160,6 @@ pub lacks_more : (ps qs : List (ℕ × ℕ)) (i c : ℕ) (d : ℕ × ℕ) (b : B
 lacks_more ps qs i c d b h =
     let p : ℕ × ℕ = get_or ps i d in
     let last : Bool = (c == p.0 || c == p.1) && not (has qs p.0 p.1) in
-    or-assoc b (lacks (take i ps) qs c) last
-    ∙ ap (λ v. b || (lacks (take i ps) qs c || v)) (sym (or-none last))
+    or_assoc b (lacks (take i ps) qs c) last
+    ∙ ap (λ v. b || (lacks (take i ps) qs c || v)) (sym (or-false last))
     ∙ ap (λ v. b || v) (sym (ap (λ xs. lacks xs qs c) (take_more ps i d h) ∙ list_any-append _ (take i ps) (p ∷ [])))

@@ -13,7 +13,7 @@ pub record Kept : Type 0 where
   pub kings : List ℕ
   pub classes : List ℕ
   pub pairs : List (ℕ × ℕ)
-  pub room : ℕ
+  pub spare : ℕ
 
 -- the number that a list has at a place, or the place itself behind its end
 abbrev pub at : List ℕ → ℕ → ℕ
@@ -47,7 +47,7 @@ pub record AreInOrder (kings classes : List ℕ) (pairs : List (ℕ × ℕ)) : T
   pub king : All (λ k. k < length kings) kings
   pub pair : All (λ p. (p.0 < length kings) × (p.1 < length kings)) pairs
   pub named : All (λ p. (at classes p.0 ≡ p.0) × (at classes p.1 ≡ p.1)) pairs
-  pub class : (f : ℕ) → at classes f ≡ class_of (relations_in (record { kings = kings; classes = classes; pairs = pairs; room = 0 })) f
+  pub class : (f : ℕ) → at classes f ≡ class_of (relations_in (record { kings = kings; classes = classes; pairs = pairs; spare = 0 })) f
 
 -- the file comes after the place, which is a number or the front
 abbrev pub is_past : Option FileNo → ℕ → Bool

@@ -1,4 +1,4 @@
-ghost use Rattle.std.specs.Prelude.{◌≡◌, ◌<◌, ◌≤◌, IfOk};
+ghost use Rattle.std.specs.Prelude.{◌≡◌, ◌<◌, ◌≤◌, length, IfOk};
 ghost use Rattle.media_types.specs.declared.limits.TheConstants.{MAX_FILES};
 ghost use Rattle.relation_groups.specs.Kept.{Holds};
 ghost use Rattle.relation_groups.specs.Moves.{moves};
@@ -46,6 +46,7 @@ impl GroupPlan {
         ensures moves { (R : Relations) → Holds draft R
             → IfOk result (λ plan. plan.moves
             ≡ moves (size_of base.now) (relations_in base.now) R) }
+        ensures pairs { IfOk result (λ plan. length plan.after.pairs ≤ length draft.pairs.items) }
     {
         let groups = Groups::of_draft(alloc, draft)?;
         let moves = base.moves_to(&groups)?;

@@ -1,6 +1,7 @@
-ghost use Rattle.std.specs.Prelude.{◌≡◌, ◌≢◌, ◌+◌, ◌<◌, ◌≤◌, ℕ, true, false, length, vec_len, All, IfOk, OnOk};
+ghost use Rattle.std.specs.Prelude.{◌≡◌, ◌≢◌, ◌+◌, ◌<◌, ◌≤◌, ℕ, [], true, false, length, vec_len, All, IfOk, OnOk};
 ghost use Rattle.media_types.specs.declared.limits.TheConstants.{MAX_DECISIONS, MAX_FILES};
 ghost use Rattle.relation_groups.specs.Clusters.{IsSplitBy, IsWithin, is_one_of, patched};
+ghost use Rattle.relation_groups.specs.Laws.{AreOfTwo};
 ghost use Rattle.relation_groups.specs.Moves.{Marks, is_moved, move_to, moves};
 ghost use Rattle.relation_groups.specs.Reading.{size_of, relations_in, is_past, next_of, is_king_beside, names_unrelated, IsPlanFor, relations_after};
 ghost use Rattle.relation_groups.specs.Relations.{Relations, at_first, by_code, class_of, of_one_group, relations, standing_of};
@@ -37,7 +38,7 @@ impl Model for Groups {
       kings = groups.kings.items;
       classes = groups.classes.items;
       pairs = groups.pairs.items;
-      room = min (vec_capacity groups.kings - vec_len groups.kings) (vec_capacity groups.classes - vec_len groups.classes);
+      spare = min (vec_capacity groups.kings - vec_len groups.kings) (vec_capacity groups.classes - vec_len groups.classes);
     } };
 
     ghost invariant = { λ groups. AreInOrder groups.kings.items groups.classes.items groups.pairs.items };
@@ -50,6 +51,7 @@ impl Groups {
     pub fn new(alloc: Global) -> Groups
         ensures size { size_of result ≡ 0 }
         ensures relations { relations_in result ≡ at_first }
+        ensures pairs { result.pairs ≡ [] }
     {
         Groups {
             alloc,
@@ -63,8 +65,9 @@ impl Groups {
     pub fn reserve_file(&mut self) -> Result<(), NoMemory>
         ensures size { size_of self.new ≡ size_of self.old }
         ensures relations { relations_in self.new ≡ relations_in self.old }
-        ensures ok { OnOk result (1 ≤ self.new.room) }
-        ensures room { self.old.room ≤ self.new.room }
+        ensures pairs { self.new.pairs ≡ self.old.pairs }
+        ensures ok { OnOk result (1 ≤ self.new.spare) }
+        ensures spare { self.old.spare ≤ self.new.spare }
     {
         self.kings.reserve(1)?;
         self.classes.reserve(1)?;
@@ -73,11 +76,12 @@ impl Groups {
 
     /// Adds a file, which stands alone, in the room that was made.
     pub fn add_file(&mut self)
-        requires room { 1 ≤ self.old.room }
+        requires spare { 1 ≤ self.old.spare }
         requires few { size_of self.old < MAX_FILES }
         ensures size { size_of self.new ≡ size_of self.old + 1 }
         ensures relations { relations_in self.new ≡ relations_in self.old }
-        ensures room { self.old.room ≤ self.new.room + 1 }
+        ensures pairs { self.new.pairs ≡ self.old.pairs }
+        ensures spare { self.old.spare ≤ self.new.spare + 1 }
     {
         let file = self.kings.len() as u32;
         self.kings.push_reserved(file);
@@ -147,6 +151,9 @@ impl Groups {
             ≡ by_code code a.0 b.0 (relations_in self.old)) }
         ensures moves { let R = relations_in self.old in IfOk result (λ plan. plan.moves
             ≡ moves (size_of self.old) R (by_code code a.0 b.0 R)) }
+        ensures pairs { IfOk result (λ plan. length plan.after.pairs ≤ length self.old.pairs + 1) }
+        ensures once { (relations_in self.old).unrelated a.0 b.0 ≡ true
+            → IfOk result (λ plan. length plan.after.pairs ≤ length self.old.pairs) }
         ensures same { self.new ≡ self.old }
         ensures steps { steps.old ≤ steps.new }
     {
@@ -167,6 +174,7 @@ impl Groups {
         requires few_files { length files.now ≤ MAX_FILES }
         requires few_decisions { length decisions.now ≤ MAX_DECISIONS }
         requires within { IsWithin (is_one_of files.now) decisions.now }
+        requires two { AreOfTwo decisions.now }
         requires closed { IsSplitBy (is_one_of files.now) (relations_in self.old) }
         ensures fits { IfOk result (λ plan. IsPlanFor plan self.new) }
         ensures after { let these = is_one_of files.now in IfOk result (λ plan.
@@ -175,6 +183,8 @@ impl Groups {
         ensures moves { let R = relations_in self.old in let these = is_one_of files.now in
             IfOk result (λ plan. plan.moves
             ≡ moves (size_of self.old) R (patched these (relations decisions.now) R)) }
+        ensures pairs { IfOk result (λ plan. length plan.after.pairs
+            ≤ length self.old.pairs + length decisions.now) }
         ensures same { self.new ≡ self.old }
         ensures steps { steps.old ≤ steps.new }
     {
@@ -190,6 +200,7 @@ impl Groups {
         requires { IsPlanFor plan self.old }
         ensures size { size_of self.new ≡ size_of self.old }
         ensures relations { relations_in self.new ≡ relations_after plan self.old }
+        ensures pairs { self.new.pairs ≡ plan.after.pairs }
     {
         *self = plan.into_groups();
     }
@@ -199,6 +210,7 @@ impl Groups {
         ensures held { IfOk result (λ G. Holds G (relations_in self.now)) }
         ensures files { IfOk result (λ G. G.files ≡ size_of self.now) }
         ensures label { IfOk result (λ G. G.next_label ≡ size_of self.now) }
+        ensures pairs { IfOk result (λ G. G.pairs.items ≡ self.now.pairs) }
         ensures few { size_of self.now ≤ MAX_FILES }
     {
         Draft::copied(
@@ -216,6 +228,7 @@ impl Groups {
         ensures size { IfOk result (λ G. size_of G ≡ draft.files) }
         ensures relations { (R : Relations) → Holds draft R
             → IfOk result (λ G. relations_in G ≡ R) }
+        ensures pairs { IfOk result (λ G. length G.pairs ≤ length draft.pairs.items) }
     {
         let mut draft = draft;
         draft.name_classes(alloc)?;

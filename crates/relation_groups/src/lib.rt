@@ -7,16 +7,14 @@ mod group_plan;
 mod groups;
 mod moves;
 mod numbers;
-mod related;
 mod rows;
 mod theorems;
 
 pub use group_plan::GroupPlan;
 pub use groups::Groups;
 pub use moves::{Move, MoveList};
-pub use related::relations_of;
 pub use rows::worked_rows;
-pub use theorems::laws;
+pub use theorems::{laws, reading_laws};
 
 #[cfg(test)]
 mod tests;

@@ -1,8 +1,7 @@
-ghost use Rattle.std.specs.Prelude.{◌≡◌, ◌≤◌, ◌<◌, length, IfOk};
-ghost use Rattle.relation_groups.specs.Relations.{AreAmong};
+ghost use Rattle.std.specs.Prelude.{◌≡◌, ◌<◌};
 
 use super::*;
-use media_types::{Code, Decision, DecisionList, FileList, FileNo, MAX_FILES, NoMemory, Steps};
+use media_types::{Code, DecisionList, FileList, FileNo, MAX_FILES, NoMemory, Steps};
 use std::alloc::Global;
 use std::marker::Brand;
 use std::process::Abort;
@@ -17,27 +16,6 @@ const BETTER: Code = Code::Better;
 const ALTERNATES: Code = Code::Alternates;
 
 const NOT_RELATED: Code = Code::NotRelated;
-
-fn decisions_of(
-    rt: &impl Abort,
-    alloc: Global,
-    files: u32,
-    rows: &[(Code, u32, u32)],
-) -> Result<DecisionList, NoMemory>
-    ensures among { IfOk result (λ list. AreAmong files list) }
-    ensures few { IfOk result (λ list. length list ≤ length rows.now) }
-{
-    let mut list = DecisionList::new(alloc);
-    for row in rows {
-        assert!(rt; row.1 < files && row.2 < files);
-        list.push(Decision {
-            code: row.0,
-            a: FileNo(row.1),
-            b: FileNo(row.2),
-        })?;
-    }
-    Ok(list)
-}
 
 fn assert_lists(rt: &impl Abort, found: &FileList, want: &[u32]) {
     assert_eq!(rt; found.len(), want.len());
@@ -56,56 +34,6 @@ struct Row<'a> {
     members: &'a [u32],
     alternates: &'a [u32],
     not_related: &'a [u32],
-}
-
-fn assert_row(rt: &impl Abort, alloc: Global, row: &Row) -> Result<(), NoMemory> {
-    assert!(rt; row.files < 100 && row.file < row.files && row.decisions.len() < 100);
-    let decisions = decisions_of(rt, alloc, row.files, row.decisions)?;
-    let found = relations_of(alloc, row.files, &decisions, FileNo(row.file))?;
-    assert_eq!(rt; found.king, FileNo(row.king));
-    assert_lists(rt, &found.members, row.members);
-    assert_lists(rt, &found.alternates, row.alternates);
-    assert_lists(rt, &found.not_related, row.not_related);
-    Ok(())
-}
-
-#[test]
-fn a_file_that_was_no_king_leaves_its_group(rt: HostRuntime) -> Result<(), Fail> {
-    let decisions = [(BETTER, 0, 1), (BETTER, 2, 3), (BETTER, 0, 3)];
-    assert_row(
-        &rt,
-        rt.alloc(),
-        &Row {
-            files: 4,
-            decisions: &decisions,
-            file: 3,
-            king: 0,
-            members: &[0, 1, 3],
-            alternates: &[],
-            not_related: &[],
-        },
-    )?;
-    Ok(())
-}
-
-#[test]
-fn pairs_reach_alternates(rt: HostRuntime) -> Result<(), Fail> {
-    let decisions = [(NOT_RELATED, 0, 1), (ALTERNATES, 1, 2), (SAME, 2, 3)];
-    assert_row(
-        &rt,
-        rt.alloc(),
-        &Row {
-            files: 4,
-            decisions: &decisions,
-            file: 3,
-            king: 2,
-            members: &[2, 3],
-            alternates: &[1],
-            not_related: &[0],
-        },
-    )?;
-    worked_rows();
-    Ok(())
 }
 
 fn groups_of(rt: &impl Abort, alloc: Global, files: u32) -> Result<Groups, NoMemory> {
@@ -127,6 +55,71 @@ fn decide<L: Ledger>(
     assert!(rt; row.1 < groups.len() && row.2 < groups.len() && row.1 != row.2);
     let plan = groups.plan_decide(row.0, FileNo(row.1), FileNo(row.2), steps)?;
     groups.commit(plan);
+    Ok(())
+}
+
+fn assert_row<L: Ledger>(
+    rt: &(impl Abort + Threads),
+    alloc: Global,
+    blank: Blank,
+    row: &Row,
+) -> Result<(), NoMemory>
+    requires name { blank.name ≡ L.name }
+    requires parts { blank.parts ≡ L.parts }
+    requires some { 0 < L.parts }
+{
+    let mut steps = Steps::<L>::new(rt, blank);
+    let mut groups = groups_of(rt, alloc, row.files)?;
+    for decision in row.decisions {
+        decide(rt, &mut groups, &mut steps, *decision)?;
+    }
+    assert!(rt; row.file < groups.len());
+    let found = groups.standing(FileNo(row.file))?;
+    assert_eq!(rt; found.king, FileNo(row.king));
+    assert_lists(rt, &found.members, row.members);
+    assert_lists(rt, &found.alternates, row.alternates);
+    assert_lists(rt, &found.not_related, row.not_related);
+    Ok(())
+}
+
+#[test]
+fn a_file_that_was_no_king_leaves_its_group(rt: HostRuntime) -> Result<(), Fail> {
+    let decisions = [(BETTER, 0, 1), (BETTER, 2, 3), (BETTER, 0, 3)];
+    assert_row::<Brand>(
+        &rt,
+        rt.alloc(),
+        Blank::new(1),
+        &Row {
+            files: 4,
+            decisions: &decisions,
+            file: 3,
+            king: 0,
+            members: &[0, 1, 3],
+            alternates: &[],
+            not_related: &[],
+        },
+    )?;
+    Ok(())
+}
+
+#[test]
+fn pairs_reach_alternates(rt: HostRuntime) -> Result<(), Fail> {
+    let decisions = [(NOT_RELATED, 0, 1), (ALTERNATES, 1, 2), (SAME, 2, 3)];
+    assert_row::<Brand>(
+        &rt,
+        rt.alloc(),
+        Blank::new(1),
+        &Row {
+            files: 4,
+            decisions: &decisions,
+            file: 3,
+            king: 2,
+            members: &[2, 3],
+            alternates: &[1],
+            not_related: &[0],
+        },
+    )?;
+    worked_rows();
     Ok(())
 }
 
@@ -180,35 +173,22 @@ fn assert_groups<L: Ledger>(
     Ok(())
 }
 
-fn assert_stands<L: Ledger>(
-    rt: &(impl Abort + Threads),
-    alloc: Global,
-    blank: Blank,
-) -> Result<(), NoMemory>
-    requires name { blank.name ≡ L.name }
-    requires parts { blank.parts ≡ L.parts }
-    requires some { 0 < L.parts }
-{
-    let mut steps = Steps::<L>::new(rt, blank);
-    let mut groups = groups_of(rt, alloc, 4)?;
-    assert!(rt; groups.len() == 4);
-    let standing = groups.standing(FileNo(3))?;
-    assert_lists(rt, &standing.members, &[3]);
-    for row in [(NOT_RELATED, 0, 1), (BETTER, 2, 3)] {
-        decide(rt, &mut groups, &mut steps, row)?;
-    }
-    assert!(rt; groups.len() == 4);
-    let standing = groups.standing(FileNo(3))?;
-    assert_eq!(rt; standing.king, FileNo(2));
-    assert_lists(rt, &standing.members, &[2, 3]);
-    assert_lists(rt, &standing.not_related, &[]);
-    assert_lists(rt, &groups.standing(FileNo(0))?.not_related, &[1]);
-    Ok(())
-}
-
 #[test]
-fn a_file_stands_as_was_decided(rt: HostRuntime) -> Result<(), Fail> {
-    assert_stands::<Brand>(&rt, rt.alloc(), Blank::new(1))?;
+fn a_file_stands_alone_at_first(rt: HostRuntime) -> Result<(), Fail> {
+    assert_row::<Brand>(
+        &rt,
+        rt.alloc(),
+        Blank::new(1),
+        &Row {
+            files: 2,
+            decisions: &[],
+            file: 1,
+            king: 1,
+            members: &[1],
+            alternates: &[],
+            not_related: &[],
+        },
+    )?;
     Ok(())
 }
 

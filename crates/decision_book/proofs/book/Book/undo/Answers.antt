@@ -1,4 +1,4 @@
-use Rattle.std.proofs.Common.{◌≡◌, ◌∙◌, get_or, sym, arith}
+use Rattle.std.proofs.Common.{◌≡◌, get_or, arith}
 use Rattle.std.proofs.lemmas.Grind.{common_steps}
 use Rattle.decision_book.proofs.Undoing.{set-undone}
 use Rattle.decision_book.proofs.book.Book.undo.Goals as goal

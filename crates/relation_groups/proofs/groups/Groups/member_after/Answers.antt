@@ -1,7 +1,8 @@
 use Rattle.std.proofs.Common.{◌≡◌, sym, arith}
+use Rattle.std.proofs.lemmas.Bool.{and_from}
 use Rattle.relation_groups.specs.Reading.{size_of, relations_in, is_past}
 use Rattle.relation_groups.specs.Relations.{of_one_group}
-use Rattle.relation_groups.proofs.Nexts.{both, next_of-first, next_of-none}
+use Rattle.relation_groups.proofs.Nexts.{next_of-first, next_of-none}
 use Rattle.relation_groups.proofs.groups.Groups.member_after.Goals as goal
 
 pub returns-then-are_one_group-clause-found : goal.returns-then-are_one_group-clause-found
@@ -11,7 +12,7 @@ returns-then-are_one_group-clause-found g c =
     let m = c.loop-file.file in
     next_of-first (size_of s) c.args.after (of_one_group (relations_in s) c.args.king.0) m (omega (arith, n, c.loop-file-test.true))
     c.loop-file.invariant
-    (both (is_past c.args.after m) (of_one_group (relations_in s) c.args.king.0 m) (c.start_after-file.ensures.past m c.loop-file.auto.file (omega (arith, n, c.loop-file-test.true, c.len-file-end.ensures.few)))
+    (and_from (is_past c.args.after m) (of_one_group (relations_in s) c.args.king.0 m) (c.start_after-file.ensures.past m c.loop-file.auto.file (omega (arith, n, c.loop-file-test.true, c.len-file-end.ensures.few)))
     (sym c.if-are_one_group.ensures))
 
 pub returns-clause-found : goal.returns-clause-found
