@@ -1,1 +1,14 @@
+pub mod Ascending
+pub mod Distances
+pub mod Holders
+pub mod Listed
 pub mod Lookups
+pub mod Nexts
+pub mod Numbers
+pub mod Planning
+pub mod Queues
+pub mod Rising
+pub mod Room
+pub mod Searches
+pub mod WordTable
+pub mod Words

@@ -7,6 +7,7 @@ use Rattle.std.specs.Str.{bytes_eq}
 use Rattle.std.proofs.lemmas.Bool.{ltb-true, ltb-false, both_ways}
 use Rattle.std.proofs.lemmas.Bool.Decides.{same_from_decides}
 use Rattle.std.proofs.lemmas.List.{length-map, map-append, get_or-map}
+use Rattle.std.proofs.lemmas.List.Elements.{All-nil, All-push}
 use Rattle.std.proofs.lemmas.List.Quantifiers.{position-Some, all_pairs_push}
 use Rattle.std.proofs.lemmas.List.Sums.{fails_before_first, passes_at_first}
 use Rattle.std.proofs.lemmas.Option.{slice_get-get_or}
@@ -14,7 +15,7 @@ use Rattle.std.proofs.lemmas.Slice.Eq.{bytes_eq-Decides}
 use Rattle.indexmap.specs.IndexSet.{insert_key}
 use Rattle.indexmap.proofs.CallerLemmas.{Contains-list_any}
 use Rattle.media_types.specs.declared.hash.Sha.{Sha}
-use Rattle.media_types.specs.declared.limits.TheConstants.{MAX_FILES}
+use Rattle.media_types.specs.declared.limits.TheConstants.{MAX_FILES, MAX_HASHES}
 use Rattle.media_types.specs.contracts.hash.ShaPartialEq.TheImpl.{eq-value}
 use Rattle.file_records.specs.declared.file_row.FileRow.{FileRow}
 use Rattle.file_records.specs.Indexing.{IsSound}
@@ -117,11 +118,20 @@ index_with file files unknown = by (list_any (eq-value.it file.sha) (shas_of fil
 pub distinct_with : (file : FileRow) (files : List FileRow) → AreDistinct files → IsUnknown file.sha files → AreDistinct (files ++ file ∷ [])
 distinct_with file files distinct unknown = all_pairs_push (λ a b. a.sha ≢ b.sha) files file distinct unknown
 
-pub index_of_pushed : (keys after : List Sha) (files rows : List FileRow) (file : FileRow) →
-    IsSound keys files → IsUnknown file.sha files → length files < MAX_FILES →
-    after ≡ insert_key eq-value.it keys file.sha → rows ≡ files ++ file ∷ [] → IsSound after rows
-index_of_pushed keys after files rows file index unknown few inserted pushed = record {
-  in_order = inserted ∙ ap (λ ks. insert_key eq-value.it ks file.sha) index.in_order ∙ index_with file files unknown ∙ ap shas_of (sym pushed);
-  distinct = rw pushed (distinct_with file files index.distinct unknown);
-  few = rw (pushed, length-append) (omega arith);
+pub index_of_pushed : (keys after : List Sha) (files : List FileRow) (file : FileRow) →
+    IsSound keys files → IsUnknown file.sha files → length files < MAX_FILES → length file.hashes ≤ MAX_HASHES →
+    after ≡ insert_key eq-value.it keys file.sha → IsSound after (files ++ file ∷ [])
+index_of_pushed keys after files file index unknown few few_hashes inserted = record {
+  in_order = inserted ∙ ap (λ ks. insert_key eq-value.it ks file.sha) index.in_order ∙ index_with file files unknown;
+  distinct = distinct_with file files index.distinct unknown;
+  few = rw length-append (omega arith);
+  few_hashes = All-push (λ f. length f.hashes ≤ MAX_HASHES) files file index.few_hashes few_hashes;
+}
+
+pub index_of_none : IsSound [] []
+index_of_none = record {
+  in_order = refl;
+  distinct = λ i j d before within same. omega arith;
+  few = omega arith;
+  few_hashes = All-nil (λ f. length f.hashes ≤ MAX_HASHES);
 }

@@ -1,4 +1,4 @@
-use media_types::{FileHashes, NewFile, Sha};
+use media_types::{FileHashes, NewFile, SearchDistance, Sha};
 
 /// What is recorded of a file.
 #[derive(Debug, Drop)]
@@ -14,7 +14,7 @@ pub struct FileRow {
     /// False once the file is deleted.
     pub live: bool,
     /// The greatest distance within which its duplicates were searched, or none.
-    pub searched: Option<u8>,
+    pub searched: Option<SearchDistance>,
 }
 
 impl From<NewFile> for FileRow {

@@ -1,15 +1,17 @@
-ghost use Rattle.std.specs.Prelude.{◌≡◌, ◌+◌, ◌<◌, ◌≤◌, ◌↔◌, [], ◌∷◌, ◌++◌, length, None, Some, IfOk, IfSome, slice_get};
+ghost use Rattle.std.specs.Prelude.{◌≡◌, ◌⊎◌, ℕ, ◌+◌, ◌<◌, ◌≤◌, ◌↔◌, true, [], ◌∷◌, ◌++◌, length, None, Some, IfOk, IfSome, All, Contains, slice_get};
 ghost use Rattle.std.specs.Option.{option_map};
-ghost use Rattle.media_types.specs.declared.limits.TheConstants.{MAX_FILES};
+ghost use Rattle.indexmap.specs.IndexSet.{spare as index_spare};
+ghost use Rattle.media_types.specs.declared.limits.TheConstants.{MAX_FILES, MAX_WORDS};
 ghost use Rattle.file_records.specs.Importing.{IsPlannedFor};
 ghost use Rattle.file_records.specs.Lookup.{AreDistinct, IsUnknown, file_with};
 ghost use Rattle.file_records.specs.Rows.{row_of};
+ghost use Rattle.file_records.specs.Words.{AreDistinctWords, has_number, is_among, words_of};
 
 use crate::file_row::FileRow;
 use crate::import_plan::ImportPlan;
 use indexmap::IndexSet;
-use media_types::{FileNo, NewFile, NoMemory, Sha, Steps};
-use spare_tables::Rows;
+use media_types::{FileNo, Hash64, MAX_HASHES, NewFile, NoMemory, Sha, Steps};
+use spare_tables::PairSet;
 use std::alloc::Global;
 use std::marker::Model;
 use std::sync::ledger::Ledger;
@@ -23,28 +25,35 @@ use std::sync::ledger::Ledger;
 #[derive(Drop)]
 #[derive_where(Debug)]
 pub struct Files {
-    index: IndexSet<Sha>,
-    rows: Rows<FileRow>,
+    pub(crate) index: IndexSet<Sha>,
+    pub(crate) rows: Vec<FileRow>,
+    /// The distinct hashes, by number.
+    pub(crate) words: IndexSet<Hash64>,
+    /// The number of a hash, and of a file that has it.
+    pub(crate) holders: PairSet,
     #[derive_where(skip(Debug))]
-    alloc: Global,
+    pub(crate) alloc: Global,
 }
 
 impl Model for Files {
-    ghost use Rattle.std.specs.Prelude.{min};
+    ghost use Rattle.std.specs.Prelude.{min, ◌/◌, ◌-◌, vec_len, vec_capacity};
+    ghost use Rattle.media_types.specs.declared.limits.TheConstants.{MAX_HASHES};
     ghost use Rattle.spare_tables.specs.Table.{Table};
     ghost use Rattle.file_records.specs.declared.file_row.FileRow.{FileRow as Row};
 
     ghost Value = { Table Row };
 
     ghost use Rattle.indexmap.specs.IndexSet.{spare as index_spare};
-    ghost use Rattle.file_records.specs.Indexing.{IsSound};
+    ghost use Rattle.file_records.specs.Indexing.{AreHeld, IsSound};
 
     ghost view = { λ files. record {
-      rows = files.rows.rows;
-      spare = min (index_spare files.index) files.rows.spare;
+      rows = files.rows.items;
+      spare = min (min (index_spare files.index) (vec_capacity files.rows - vec_len files.rows))
+          (min (index_spare files.words / MAX_HASHES) (files.holders.spare / MAX_HASHES));
     } };
 
-    ghost invariant = { λ files. IsSound files.index.keys files.rows.rows };
+    ghost invariant = { λ files. IsSound files.index.keys files.rows.items
+        × AreHeld files.words.keys files.holders.rows files.rows.items };
 }
 
 impl Files {
@@ -55,7 +64,9 @@ impl Files {
     {
         Files {
             index: IndexSet::new(alloc),
-            rows: Rows::new(alloc),
+            rows: Vec::new(alloc),
+            words: IndexSet::new(alloc),
+            holders: PairSet::new(alloc),
             alloc,
         }
     }
@@ -87,23 +98,27 @@ impl Files {
         ensures row { slice_get self.now.rows file.0 ≡ Some result.now }
         ensures steps { steps.new ≡ steps.old + 1 }
     {
-        self.rows.get(file.0 as u64, steps)
+        steps.tick();
+        &self.rows[file.0 as usize]
     }
 
-    /// Makes room for the file, and the row that it will have. Where the room was missing, it may copy
-    /// each row.
+    /// Makes room for the file, and works out the row that it will have and its new words. Where the room
+    /// was missing, it may copy each row, word and holder.
     pub fn plan_import(&mut self, file: &NewFile) -> Result<ImportPlan, NoMemory>
         requires unknown { IsUnknown file.now.sha self.old.rows }
         requires few { length self.old.rows < MAX_FILES }
         ensures rows { self.new.rows ≡ self.old.rows }
-        ensures row { IfOk result (λ plan. plan ≡ row_of file.now) }
+        ensures row { IfOk result (λ plan. plan.row ≡ row_of file.now) }
         ensures planned { IfOk result (λ plan. IsPlannedFor plan self.new) }
         ensures spare { self.old.spare ≤ self.new.spare }
     {
+        let words = self.new_words(file.hashes.as_slice())?;
         let row = FileRow::from(file.copied(self.alloc)?);
         self.index.reserve(1)?;
         self.rows.reserve(1)?;
-        Ok(ImportPlan { row })
+        self.words.reserve(MAX_HASHES)?;
+        self.holders.reserve(MAX_HASHES)?;
+        Ok(ImportPlan { row, words })
     }
 
     /// Gives a plan up. Its room stays for the next one.
@@ -114,16 +129,52 @@ impl Files {
         drop(plan);
     }
 
-    /// Puts the planned file last, in the room that was made, and gives its number.
+    /// Puts the planned file last, in the room that was made, and gives its number. Its new words get the
+    /// next numbers. A hash that another file has too may move each later holder by a place.
     pub fn commit_import(&mut self, plan: ImportPlan) -> FileNo
         requires { IsPlannedFor plan self.old }
-        ensures rows { self.new.rows ≡ self.old.rows ++ plan ∷ [] }
+        ensures rows { self.new.rows ≡ self.old.rows ++ plan.row ∷ [] }
+        ensures words { words_of self.new.rows ≡ words_of self.old.rows ++ plan.words }
         ensures number { result.0 ≡ length self.old.rows }
         ensures spare { self.old.spare ≤ self.new.spare + 1 }
     {
         let number = self.rows.len() as u32;
         let _added = self.index.insert(plan.row.sha).unwrap();
-        self.rows.push(plan.row);
+        add_words(&mut self.words, plan.words.as_slice());
+        add_holders(
+            &mut self.holders,
+            &self.words,
+            number,
+            plan.row.hashes.as_slice(),
+        );
+        self.rows.push_reserved(plan.row);
         FileNo(number)
+    }
+}
+
+// Gives these words the next numbers, in the room that was made.
+fn add_words(words: &mut IndexSet<Hash64>, new: &[Hash64])
+    requires distinct { AreDistinctWords (words.old.keys ++ new.now) }
+    requires room { length new.now ≤ index_spare words.old }
+    ensures words { words.new.keys ≡ words.old.keys ++ new.now }
+    ensures spare { index_spare words.old ≤ index_spare words.new + length new.now }
+{
+    for word in new {
+        let _added = words.insert(*word).unwrap();
+    }
+}
+
+// Notes that the file of this number has these hashes, in the room that was made.
+fn add_holders(holders: &mut PairSet, words: &IndexSet<Hash64>, file: u32, hashes: &[Hash64])
+    requires known { All (λ hash. is_among words.now.keys hash ≡ true) hashes.now }
+    requires few { length words.now.keys ≤ MAX_WORDS }
+    requires room { length hashes.now ≤ holders.old.spare }
+    ensures holders { (h k : ℕ) → Contains holders.new.rows (h, k)
+        ↔ (Contains holders.old.rows (h, k) ⊎ ((k ≡ file) × (has_number words.now.keys h hashes.now ≡ true))) }
+    ensures spare { holders.old.spare ≤ holders.new.spare + length hashes.now }
+{
+    for hash in hashes {
+        let number = words.get_index_of(hash).unwrap();
+        let _added = holders.insert((number as u32, file));
     }
 }

@@ -1,16 +1,19 @@
-//! What is recorded of files: the row of a file, and the table of files with its look-up by SHA-256.
+//! What is recorded of files: the row of a file, the table of files with its look-up by SHA-256, the
+//! numbers of their distinct hashes, and how far their duplicates were searched.
 #![tactic(auto)]
 
 mod file_row;
 mod files;
+mod hashes;
 mod import_plan;
+mod searching;
 mod theorems;
 
 pub use file_row::FileRow;
 pub use files::Files;
 pub use import_plan::ImportPlan;
 pub use media_types::NewFile;
-pub use theorems::laws;
+pub use theorems::{hash_laws, laws, search_laws};
 
 #[cfg(test)]
 mod tests;

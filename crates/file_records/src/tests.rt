@@ -1,14 +1,14 @@
-ghost use Rattle.std.specs.Prelude.{◌≡◌, ◌<◌, IfOk};
+ghost use Rattle.std.specs.Prelude.{◌≡◌, IfOk};
 ghost use Rattle.file_records.specs.Importing.{IsPlannedFor};
 
+mod hashes;
+mod searching;
+
 use super::*;
-use media_types::{FileHashes, FileNo, Hash64, HashList, MAX_FILES, MAX_HASHES, Sha, Steps};
+use media_types::{FileHashes, FileNo, Hash64, HashList, MAX_FILES, MAX_HASHES, Sha};
 use std::alloc::Global;
-use std::marker::Brand;
 use std::process::Abort;
-use std::sync::ledger::{Blank, Ledger};
 use std::test::Fail;
-use std::thread::Threads;
 
 fn sha_of(number: u32) -> Sha {
     let mut bytes = [0; 32];
@@ -16,15 +16,17 @@ fn sha_of(number: u32) -> Sha {
     Sha(bytes)
 }
 
-fn file_of(rt: &impl Abort, alloc: Global, number: u32, size: u64) -> Result<NewFile, Fail> {
+// A file of these hashes. Its number stands for its SHA-256 and its size.
+fn file_of(rt: &impl Abort, alloc: Global, number: u32, words: &[u64]) -> Result<NewFile, Fail> {
     let mut list = HashList::new(alloc);
-    list.push(Hash64(size))?;
+    for word in words {
+        list.push(Hash64(*word))?;
+    }
     assert!(rt; list.len() <= MAX_HASHES);
-    let hashes = FileHashes::new(list);
     Ok(NewFile {
         sha: sha_of(number),
-        hashes,
-        size,
+        hashes: FileHashes::new(list),
+        size: u64::from(number),
         width: 3,
         height: 2,
     })
@@ -39,67 +41,19 @@ fn plan_new(rt: &impl Abort, files: &mut Files, file: &NewFile) -> Result<Import
     Ok(plan)
 }
 
-fn assert_row(rt: &impl Abort, row: &FileRow, number: u32, size: u64) {
-    assert_eq!(rt; row.sha, sha_of(number));
-    assert_eq!(rt; row.hashes.as_slice(), [Hash64(size)].as_slice());
-    assert_eq!(rt; row.size, size);
-    assert_eq!(rt; row.width, 3);
-    assert_eq!(rt; row.height, 2);
-    assert!(rt; row.live);
-    assert_eq!(rt; row.searched, None);
-}
-
-// Plans an import twice: the first plan is given up.
-fn import_next(rt: &impl Abort, files: &mut Files, file: &NewFile, place: u32) -> Result<(), Fail> {
-    let given_up = plan_new(rt, files, file)?;
-    files.withdraw(given_up);
-    assert_eq!(rt; files.len(), place);
-    assert_eq!(rt; files.find(&file.sha), None);
-    let plan = plan_new(rt, files, file)?;
-    assert_eq!(rt; files.commit_import(plan), FileNo(place));
-    Ok(())
-}
-
-// Each file has a place, a number that stands for its SHA-256, and a size.
-fn three_files<L: Ledger>(
-    rt: &(impl Abort + Threads),
-    alloc: Global,
-    blank: Blank,
-) -> Result<(), Fail>
-    requires name { blank.name ≡ L.name }
-    requires parts { blank.parts ≡ L.parts }
-    requires some { 0 < L.parts }
-{
-    let mut steps = Steps::<L>::new(rt, blank);
+fn many_files(rt: &impl Abort, alloc: Global) -> Result<Files, Fail> {
     let mut files = Files::new(alloc);
-    let cases = [(0, 70, 500), (1, 60, 400), (2, 80, 600)];
-    for (place, number, size) in cases {
-        import_next(rt, &mut files, &file_of(rt, alloc, number, size)?, place)?;
+    for number in 0..2_000 {
+        let file = file_of(rt, alloc, number, &[7, u64::from(number)])?;
+        let plan = plan_new(rt, &mut files, &file)?;
+        assert_eq!(rt; files.commit_import(plan), FileNo(number));
     }
-    assert_eq!(rt; files.len(), 3);
-    assert_eq!(rt; files.find(&sha_of(90)), None);
-    for (place, number, size) in cases {
-        assert_eq!(rt; files.find(&sha_of(number)), Some(FileNo(place)));
-        assert!(rt; place < files.len());
-        assert_row(rt, files.row(FileNo(place), &mut steps), number, size);
-    }
-    Ok(())
-}
-
-#[test]
-fn three_files_are_found_in_order(rt: HostRuntime) -> Result<(), Fail> {
-    three_files::<Brand>(&rt, rt.alloc(), Blank::new(1))
+    Ok(files)
 }
 
 #[test]
 fn many_files_are_found_again(rt: HostRuntime) -> Result<(), Fail> {
-    let alloc = rt.alloc();
-    let mut files = Files::new(alloc);
-    for number in 0..2_000 {
-        let file = file_of(&rt, alloc, number, 7)?;
-        let plan = plan_new(&rt, &mut files, &file)?;
-        assert_eq!(rt; files.commit_import(plan), FileNo(number));
-    }
+    let files = many_files(&rt, rt.alloc())?;
     for number in 0..2_000 {
         assert_eq!(rt; files.find(&sha_of(number)), Some(FileNo(number)));
     }

@@ -1,0 +1,12 @@
+use Rattle.file_records.proofs.Distances.{symmetric}
+use Rattle.file_records.proofs.Words.{words_of_more, words_are_distinct}
+use Rattle.file_records.proofs.theorems.hash_laws.Goals as goal
+
+pub returns-clause-one_more : goal.returns-clause-one_more
+returns-clause-one_more c = words_of_more
+
+pub returns-clause-distinct : goal.returns-clause-distinct
+returns-clause-distinct c = words_are_distinct
+
+pub returns-clause-symmetric : goal.returns-clause-symmetric
+returns-clause-symmetric c = symmetric

@@ -1,0 +1,218 @@
+//! Six files with 0 to 4 hashes: one hash stands twice in a file, two are in several files.
+
+ghost use Rattle.std.specs.Prelude.{◌≡◌, ◌<◌};
+
+use super::{file_of, plan_new, sha_of};
+use crate::{FileRow, Files};
+use media_types::{FileNo, Hash64, HashNo, Steps};
+use std::alloc::Global;
+use std::marker::Brand;
+use std::process::Abort;
+use std::sync::ledger::{Blank, Ledger};
+use std::test::Fail;
+use std::thread::Threads;
+
+// A file: a number that stands for its SHA-256 and its size, its hashes, and those that are new with it.
+#[derive(Drop)]
+struct Case<'a> {
+    number: u32,
+    words: &'a [u64],
+    new: &'a [u64],
+}
+
+const CASES: [Case<'static>; 6] = [
+    Case {
+        number: 70,
+        words: &[],
+        new: &[],
+    },
+    Case {
+        number: 60,
+        words: &[0x00, 0x07],
+        new: &[0x00, 0x07],
+    },
+    Case {
+        number: 80,
+        words: &[0x07, 0x07],
+        new: &[],
+    },
+    Case {
+        number: 50,
+        words: &[0xff, 0x00, 0x08, 0xff00],
+        new: &[0xff, 0x08, 0xff00],
+    },
+    Case {
+        number: 90,
+        words: &[0xf0, 0x07, 0xf0],
+        new: &[0xf0],
+    },
+    Case {
+        number: 40,
+        words: &[u64::MAX],
+        new: &[u64::MAX],
+    },
+];
+
+fn assert_words(rt: &impl Abort, found: &[Hash64], expected: &[u64]) {
+    assert_eq!(rt; found.len(), expected.len());
+    for (word, bits) in found.iter().zip(expected) {
+        assert_eq!(rt; word.0, *bits);
+    }
+}
+
+// Plans an import twice: the first plan is given up.
+fn import_next(
+    rt: &impl Abort,
+    alloc: Global,
+    files: &mut Files,
+    case: &Case,
+    place: u32,
+) -> Result<(), Fail> {
+    let file = file_of(rt, alloc, case.number, case.words)?;
+    let given_up = plan_new(rt, files, &file)?;
+    files.withdraw(given_up);
+    assert_eq!(rt; files.len(), place);
+    assert_eq!(rt; files.find(&file.sha), None);
+    let plan = plan_new(rt, files, &file)?;
+    assert_words(rt, plan.words(), case.new);
+    assert_eq!(rt; files.commit_import(plan), FileNo(place));
+    Ok(())
+}
+
+fn six_files(rt: &impl Abort, alloc: Global) -> Result<Files, Fail> {
+    let mut files = Files::new(alloc);
+    for (place, case) in CASES.iter().enumerate() {
+        import_next(rt, alloc, &mut files, case, place as u32)?;
+    }
+    assert_eq!(rt; files.len(), 6);
+    Ok(files)
+}
+
+fn assert_row(rt: &impl Abort, row: &FileRow, case: &Case) {
+    assert_eq!(rt; row.sha, sha_of(case.number));
+    assert_words(rt, row.hashes.as_slice(), case.words);
+    assert_eq!(rt; row.size, u64::from(case.number));
+    assert_eq!(rt; row.width, 3);
+    assert_eq!(rt; row.height, 2);
+    assert!(rt; row.live);
+    assert_eq!(rt; row.searched, None);
+}
+
+fn assert_found<L: Ledger>(
+    rt: &impl Abort,
+    files: &Files,
+    file: FileNo,
+    case: &Case,
+    steps: &mut Steps<L>,
+) {
+    assert_eq!(rt; files.find(&sha_of(case.number)), Some(file));
+    assert!(rt; file.0 < files.len());
+    assert_row(rt, files.row(file, steps), case);
+}
+
+fn find_all<L: Ledger>(rt: &(impl Abort + Threads), alloc: Global, blank: Blank) -> Result<(), Fail>
+    requires name { blank.name ≡ L.name }
+    requires parts { blank.parts ≡ L.parts }
+    requires some { 0 < L.parts }
+{
+    let mut steps = Steps::<L>::new(rt, blank);
+    let files = six_files(rt, alloc)?;
+    assert_eq!(rt; files.find(&sha_of(71)), None);
+    for (place, case) in CASES.iter().enumerate() {
+        assert_found(rt, &files, FileNo(place as u32), case, &mut steps);
+    }
+    Ok(())
+}
+
+#[test]
+fn files_are_found_in_order(rt: HostRuntime) -> Result<(), Fail> {
+    find_all::<Brand>(&rt, rt.alloc(), Blank::new(1))
+}
+
+fn assert_numbers(rt: &impl Abort, files: &Files) {
+    let numbers = [
+        (0x00, Some(HashNo(0))),
+        (0x07, Some(HashNo(1))),
+        (0xff, Some(HashNo(2))),
+        (0x08, Some(HashNo(3))),
+        (0xff00, Some(HashNo(4))),
+        (0xf0, Some(HashNo(5))),
+        (u64::MAX, Some(HashNo(6))),
+        (0x01, None),
+    ];
+    for (word, expected) in numbers {
+        assert_eq!(rt; files.find_hash(Hash64(word)), expected);
+    }
+}
+
+// The files of each hash, and behind them none: a hash's number, and the files.
+fn walk_hashes<L: Ledger>(
+    rt: &(impl Abort + Threads),
+    alloc: Global,
+    blank: Blank,
+) -> Result<(), Fail>
+    requires name { blank.name ≡ L.name }
+    requires parts { blank.parts ≡ L.parts }
+    requires some { 0 < L.parts }
+{
+    let mut steps = Steps::<L>::new(rt, blank);
+    let files = six_files(rt, alloc)?;
+    assert_numbers(rt, &files);
+    let nexts = [
+        (0, None, Some(FileNo(1))),
+        (0, Some(FileNo(0)), Some(FileNo(1))),
+        (0, Some(FileNo(1)), Some(FileNo(3))),
+        (0, Some(FileNo(2)), Some(FileNo(3))),
+        (0, Some(FileNo(3)), None),
+        (0, Some(FileNo(u32::MAX)), None),
+        (1, None, Some(FileNo(1))),
+        (1, Some(FileNo(1)), Some(FileNo(2))),
+        (1, Some(FileNo(2)), Some(FileNo(4))),
+        (1, Some(FileNo(4)), None),
+        (2, None, Some(FileNo(3))),
+        (5, Some(FileNo(3)), Some(FileNo(4))),
+        (6, None, Some(FileNo(5))),
+        (6, Some(FileNo(5)), None),
+        (7, None, None),
+        (u32::MAX, None, None),
+        (u32::MAX, Some(FileNo(u32::MAX)), None),
+    ];
+    for (hash, after, expected) in nexts {
+        let next = files.files_of(HashNo(hash), after, &mut steps);
+        assert_eq!(rt; next, expected, "at {hash}");
+    }
+    Ok(())
+}
+
+#[test]
+fn hashes_lead_to_their_files(rt: HostRuntime) -> Result<(), Fail> {
+    walk_hashes::<Brand>(&rt, rt.alloc(), Blank::new(1))
+}
+
+fn assert_distance(rt: &impl Abort, files: &Files, f: u32, g: u32, expected: Option<u32>) {
+    assert!(rt; f < files.len() && g < files.len());
+    assert_eq!(rt; files.file_distance(FileNo(f), FileNo(g)), expected);
+}
+
+// Bits that differ, counted by hand.
+#[test]
+fn the_least_distance_counts(rt: HostRuntime) -> Result<(), Fail> {
+    let files = six_files(&rt, rt.alloc())?;
+    let cases = [
+        (0, 0, None),
+        (0, 3, None),
+        (3, 3, Some(0)),
+        (1, 2, Some(0)),
+        (1, 3, Some(0)),
+        (2, 3, Some(3)),
+        (3, 4, Some(3)),
+        (1, 5, Some(61)),
+        (3, 5, Some(56)),
+        (4, 5, Some(60)),
+    ];
+    for (f, g, expected) in cases {
+        assert_distance(&rt, &files, f, g, expected);
+        assert_distance(&rt, &files, g, f, expected);
+    }
+    Ok(())
+}
