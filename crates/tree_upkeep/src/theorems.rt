@@ -1,4 +1,4 @@
-ghost use Rattle.std.specs.Prelude.{◌≢◌, ◌↔◌, Bool, IsTrue, List, Contains};
+ghost use Rattle.std.specs.Prelude.{◌≡◌, ◌≢◌, ◌↔◌, ◌<◌, Bool, false, not, ◌==◌, if◌then◌else◌, IsTrue, List, [], ◌∷◌, ◌++◌, All, Contains, filter};
 ghost use Rattle.media_types.specs.declared.numbers.FileNo.{FileNo};
 ghost use Rattle.tree_upkeep.specs.Queue.{Ascend, noted};
 
@@ -11,4 +11,11 @@ pub fn laws()
         → other ≢ file → Contains (noted file queued queue) other ↔ Contains queue other }
     ensures ascending { (file : FileNo) (queued : Bool) (queue : List FileNo)
         → Ascend queue → Ascend (noted file queued queue) }
+
+    // A file that is greater than all others goes last, and one that is taken out leaves the others.
+    ensures at_end { (file : FileNo) (queued : Bool) (queue : List FileNo)
+        → All (λ f. f.0 < file.0) queue
+        → noted file queued queue ≡ queue ++ (if queued then file ∷ [] else []) }
+    ensures taken_out { (file : FileNo) (queue : List FileNo)
+        → Ascend queue → noted file false queue ≡ filter (λ other. not (file.0 == other.0)) queue }
 {}

@@ -1,7 +1,7 @@
 -- Sums over branches and counts of reads, one node at a time.
 use Rattle.std.proofs.Common.{◌≡◌, ◌∙◌, ℕ, zero, suc, ◌+◌, ◌<◌, ◌≤◌, nat_le, nat_lt, Bool, true, false, cond, List, length, Option, Some, None, refl, arith}
 use Rattle.std.specs.Option.{option_map_or}
-use Rattle.std.proofs.lemmas.Bool.Decides.{nat_tests}
+use Rattle.std.proofs.lemmas.Bool.{leb-false, ltb-false}
 use Rattle.media_types.specs.Distance.{distance_of}
 use Rattle.media_types.specs.declared.hash.Hash64.{Hash64}
 use Rattle.media_types.specs.declared.numbers.HashNo.{HashNo}
@@ -79,12 +79,6 @@ pub reads-step : (ns : List NodeView) (q : Hash64) (w k : ℕ) → ComeLater ns 
     ≡ 1 + (at_part (open_inner (node_at ns k) q w) (reads_in (length ns) ns q w) + at_part (open_outer (node_at ns k) q w) (reads_in (length ns) ns q w))
 reads-step ns q w k L lt = reads_in-step (length ns) ns q w k L lt (omega arith)
 
-shut_le : (m n : ℕ) → nat_le m n ≡ false → m ≤ n → ⊥
-shut_le m n e h = grind (arith, nat_tests)
-
-shut_lt : (m n : ℕ) → nat_lt m n ≡ false → m < n → ⊥
-shut_lt m n e h = grind (arith, nat_tests)
-
 -- a part that is shut has no hit
 inner-shut : (ns : List NodeView) (k j : ℕ) (q : Hash64) (w : ℕ) (o : Option ℕ) (c : HashNo) → IsTree ns → k < length ns → j < length ns
     → distance_of q (node_at ns j).word ≤ w → (node_at ns k).radius ≡ o → (node_at ns k).inner ≡ Some c
@@ -96,7 +90,7 @@ inner-shut ns k j q w (Some r) c T kn jn near er ei shut there =
     let cut : distance_of (node_at ns j).word (node_at ns k).word ≤ r = T.cut.near k j r c kn jn er ei there in
     let tri : distance_of q (node_at ns k).word ≤ distance_of q (node_at ns j).word + distance_of (node_at ns j).word (node_at ns k).word = triangle q (node_at ns j).word (node_at ns k).word in
     let le : distance_of q (node_at ns k).word ≤ r + w = omega (arith, cut, tri, near) in
-    shut_le (distance_of q (node_at ns k).word) (r + w) shut le
+    omega (arith, leb-false (distance_of q (node_at ns k).word) (r + w) shut, le)
 
 outer-shut : (ns : List NodeView) (k j : ℕ) (q : Hash64) (w : ℕ) (o : Option ℕ) (c : HashNo) → IsTree ns → k < length ns → j < length ns
     → distance_of q (node_at ns j).word ≤ w → (node_at ns k).radius ≡ o → (node_at ns k).outer ≡ Some c
@@ -109,13 +103,13 @@ outer-shut ns k j q w (Some r) c T kn jn near er ei shut there =
     let tri : distance_of (node_at ns j).word (node_at ns k).word ≤ distance_of (node_at ns j).word q + distance_of q (node_at ns k).word = triangle (node_at ns j).word q (node_at ns k).word in
     let swap : distance_of (node_at ns j).word q ≡ distance_of q (node_at ns j).word = distance_of-sym (node_at ns j).word q in
     let lt : r < distance_of q (node_at ns k).word + w = omega (arith, cut, tri, near, swap) in
-    shut_lt r (distance_of q (node_at ns k).word + w) shut lt
+    omega (arith, ltb-false r (distance_of q (node_at ns k).word + w) shut, lt)
 
 kept-if : (b : Bool) (o : Option HashNo) (F : ℕ → ℕ) → (b ≡ false → at_part o F ≡ 0) → at_part o F ≡ at_part (cond b o None) F
 kept-if true o F h = refl
 kept-if false o F h = h refl
 
-none_if : (n : ℕ) → (1 ≤ n → ⊥) → n ≡ 0
+pub none_if : (n : ℕ) → (1 ≤ n → ⊥) → n ≡ 0
 none_if zero h = refl
 none_if (suc n) h = absurd (h (omega arith))
 

@@ -3,12 +3,13 @@ use Rattle.std.proofs.Common.{◌≡◌, ◌∙◌, ℕ, zero, suc, ◌+◌, ◌
 use Rattle.std.specs.List.{range_with_len, AllPairs}
 use Rattle.std.specs.List.Sorted.{IsNonDecreasingBy, IsPermutation}
 use Rattle.std.specs.Option.{option_to_list}
-use Rattle.std.proofs.lemmas.Bool.{cases_lt}
-use Rattle.std.proofs.lemmas.Bool.Decides.{nat_tests, eqb_tells}
+use Rattle.std.proofs.lemmas.Bool.{cases_lt, lt-ltb, ltb-true}
+use Rattle.std.proofs.lemmas.Bool.Decides.{eqb_tells}
 use Rattle.std.proofs.lemmas.List.Elements.{All-append, All-cons, All-nil, All-pop}
 use Rattle.std.proofs.lemmas.List.Kept.{AllPairs-cons}
 use Rattle.std.proofs.lemmas.List.Sorted.{All-permutation, sum_by-IsPermutation}
-use Rattle.std.proofs.lemmas.List.Sums.{sum_by-cons, sum_by-append, get_or-le-sum_by}
+use Rattle.std.proofs.lemmas.List.Sums.{sum_by-cons, sum_by-append, get_or-le-sum_by, sum_by_push}
+use Rattle.media_types.specs.declared.limits.TheConstants.{MAX_WORDS}
 use Rattle.media_types.specs.declared.numbers.HashNo.{HashNo}
 use Rattle.vp_tree.specs.declared.building.Point.{Point}
 use Rattle.vp_tree.specs.declared.node.NodeView.{NodeView}
@@ -17,7 +18,7 @@ use Rattle.vp_tree.specs.Nodes.{node_at, one_at, total, times, size}
 use Rattle.vp_tree.specs.Shape.{inward, outward, IsTree}
 use Rattle.vp_tree.proofs.Branches.{total-step}
 use Rattle.vp_tree.proofs.Built.{length-sum}
-use Rattle.vp_tree.proofs.Finding.{All-one, All-option, sum-taken, sum-put}
+use Rattle.vp_tree.proofs.Finding.{All-one, All-option, sum-put}
 use Rattle.vp_tree.proofs.Sorting.{found_times, found_times-cons, found_times-none, one_at-other, one_at-same, sorted_from}
 use Rattle.vp_tree.proofs.Times.{times-before, times-self, times-once, within-le, numbers-sum}
 
@@ -41,16 +42,18 @@ pub taken-within : (ns : List NodeView) (top : ℕ) (ps : List Point) (stack : L
     → IsCollecting ns top ps (stack ++ at ∷ []) → at.0 < length ns
 taken-within ns top ps stack at h = (All-pop (λ s. s.0 < length ns) (stack ++ at ∷ []) stack (Some at) refl h.inside).1
 
-pub size-taken : (ns : List NodeView) (stack : List HashNo) (at : HashNo) → IsTree ns → at.0 < length ns
-    → sum_by (λ s. size ns s.0) (stack ++ at ∷ [])
-    ≡ 1 + sum_by (λ s. size ns s.0) (stack ++ option_to_list (node_at ns at.0).inner ++ option_to_list (node_at ns at.0).outer)
-size-taken ns stack at T lt =
-    omega (
+-- a branch was taken from the stack, and the parts of its node were put: one node fewer is left
+pub size-taken : (ns : List NodeView) (old rest new : List HashNo) (at : HashNo) → IsTree ns → at.0 < length ns → old ≡ rest ++ at ∷ []
+    → new ≡ rest ++ option_to_list (node_at ns at.0).inner ++ option_to_list (node_at ns at.0).outer
+    → sum_by (λ s. size ns s.0) old ≡ 1 + sum_by (λ s. size ns s.0) new
+size-taken ns old rest new at T lt taken put =
+    rw (taken, put)
+    (omega (
       arith,
-      sum-taken (λ s. size ns s.0) stack at,
-      sum-put (size ns) stack (node_at ns at.0).inner (node_at ns at.0).outer,
+      sum_by_push (λ s. size ns s.0) rest at,
+      sum-put (size ns) rest (node_at ns at.0).inner (node_at ns at.0).outer,
       total-step ns (λ _. 1) at.0 T.linked.later lt,
-    )
+    ))
 
 pub collecting-more : (ns : List NodeView) (top : ℕ) (ps : List Point) (stack : List HashNo) (at : HashNo) → IsTree ns
     → IsCollecting ns top ps (stack ++ at ∷ [])
@@ -70,17 +73,11 @@ collecting-more ns top ps stack at T h =
         h.each j,
         sum_by-append (λ p. one_at j p.number.0) ps (point_at ns at.0 ∷ []),
         sum_by-cons (λ p. one_at j p.number.0) (point_at ns at.0) [],
-        sum-taken (λ s. times ns s.0 j) stack at,
+        sum_by_push (λ s. times ns s.0 j) stack at,
         sum-put (λ i. times ns i j) stack node.inner node.outer,
         total-step ns (one_at j) at.0 T.linked.later before.1,
       );
     }
-
-wanted : (n : ℕ) → 1 ≤ n → nat_lt 0 n ≡ true
-wanted n h = grind (arith, nat_tests)
-
-counted : (n : ℕ) → nat_lt 0 n ≡ true → 1 ≤ n
-counted n e = grind (arith, nat_tests)
 
 -- what was taken in the end, sorted
 pub collected : (ns : List NodeView) (top : ℕ) (ps sorted : List Point) → IsTree ns → top < length ns → IsCollecting ns top ps []
@@ -94,11 +91,11 @@ collected ns top ps sorted T lt h moved up =
       omega arith,
       r.0,
       r.1,
-      wanted (times ns top (get_or sorted k d).number.0)
+      lt-ltb 0 (times ns top (get_or sorted k d).number.0)
           (omega (arith, found (get_or sorted k d).number.0, one_at-same (get_or sorted k d).number.0, get_or-le-sum_by (λ p. one_at (get_or sorted k d).number.0 p.number.0) sorted k d lk)),
     ))
     up
-    (λ j le jn want. omega (arith, found j, counted (times ns top j) want, times-once ns top j T lt jn))
+    (λ j le jn want. omega (arith, found j, ltb-true 0 (times ns top j) want, times-once ns top j T lt jn))
 
 all-if : {X : Type 0} (P : X → Type 0) (make : ℕ → X) (b : Bool) (a : ℕ) (js : List ℕ) → (b ≡ true → P (make a)) → All P (map make js)
     → All P (map make (cond b (a ∷ js) js))
@@ -153,7 +150,7 @@ no_earlier m n h = elim (cases_lt n m) [ inl lt ↦ absurd (h lt) | inr le ↦ l
 points-after : (ns : List NodeView) (top : ℕ) → IsTree ns → top < length ns → All (λ p. top ≤ p.number.0) (points ns top)
 points-after ns top T lt =
     all-made (λ p. top ≤ p.number.0) (point_at ns) (λ k. nat_lt 0 (times ns top k)) (length ns) 0 (length ns) (omega arith)
-    (λ j le lj w. no_earlier top j (λ before. omega (arith, counted (times ns top j) w, times-before ns top j T.linked.later lt before)))
+    (λ j le lj w. no_earlier top j (λ before. omega (arith, ltb-true 0 (times ns top j) w, times-before ns top j T.linked.later lt before)))
 
 first_of_up : (top : ℕ) (ps : List Point) → All (λ p. top ≤ p.number.0) ps → IsUp ps → 1 ≤ sum_by (λ p. one_at top p.number.0) ps
     → (p : Point) × (qs : List Point) × (ps ≡ p ∷ qs) × (p.number.0 ≡ top)
@@ -179,7 +176,7 @@ points-first ns top T lt =
     first_of_up top (points ns top) (points-after ns top T lt) (points-up ns top)
     (omega (arith, points-sum ns (one_at top) top T lt, times-self ns top T.linked.later lt))
 
-pub points-few : (ns : List NodeView) (top : ℕ) → IsTree ns → top < length ns → length (points ns top) ≤ 4000000
+pub points-few : (ns : List NodeView) (top : ℕ) → IsTree ns → top < length ns → length (points ns top) ≤ MAX_WORDS
 points-few ns top T lt =
     let root : 1 ≤ times ns 0 top = omega (arith, T.linked.once top lt) in
     omega (
@@ -201,4 +198,4 @@ all-wanted want (suc m) a end e h =
 pub points-root : (ns : List NodeView) → IsTree ns → points ns 0 ≡ map (point_at ns) (range_with_len 0 (length ns))
 points-root ns T =
     ap (map (point_at ns)) (all-wanted (λ k. nat_lt 0 (times ns 0 k)) (length ns) 0 (length ns) (omega arith)
-    (λ j lj. wanted (times ns 0 j) (omega (arith, T.linked.once j lj))))
+    (λ j lj. lt-ltb 0 (times ns 0 j) (omega (arith, T.linked.once j lj))))

@@ -1,17 +1,18 @@
 -- An insertion under way: the nodes on the way up to the next one have grown.
-use Rattle.std.proofs.Common.{◌≡◌, ◌∙◌, ℕ, ◌+◌, ◌-◌, ◌<◌, ◌≤◌, ◌==◌, ◌||◌, Bool, true, false, cond, List, ◌∷◌, length, Option, Some, None, refl, sym, ap, inl, inr, arith}
+use Rattle.std.proofs.Common.{◌≡◌, ◌∙◌, ℕ, ◌-◌, ◌<◌, ◌≤◌, ◌==◌, true, false, cond, List, ◌∷◌, length, Option, Some, None, refl, sym, ap, inl, inr, arith}
 use Rattle.std.specs.Option.{option_map_or}
 use Rattle.std.proofs.Math.ListN.{set}
+use Rattle.std.proofs.lemmas.Bool.{or_right, false_from_ne_true}
 use Rattle.std.proofs.lemmas.Bool.Decides.{eqb_tells}
 use Rattle.std.proofs.lemmas.List.{get_or-set_same, get_or-set_other, length-set}
 use Rattle.media_types.specs.declared.hash.Hash64.{Hash64}
 use Rattle.media_types.specs.declared.numbers.HashNo.{HashNo}
 use Rattle.vp_tree.specs.declared.node.NodeView.{NodeView}
-use Rattle.vp_tree.specs.Nodes.{leaf, node_at, at_part, size}
-use Rattle.vp_tree.specs.Placing.{is_within, next_of, way, is_on, grown}
-use Rattle.vp_tree.specs.Shape.{IsTree}
-use Rattle.vp_tree.proofs.Branches.{total-step}
-use Rattle.vp_tree.proofs.Ways.{left_way, next-later, way-step, way_in-after, on_rest, on_first}
+use Rattle.vp_tree.specs.Nodes.{leaf, node_at, size}
+use Rattle.vp_tree.specs.Placing.{next_of, way, is_on, grown}
+use Rattle.vp_tree.specs.Shape.{IsTree, Side, part}
+use Rattle.vp_tree.proofs.Times.{child-le}
+use Rattle.vp_tree.proofs.Ways.{left_way, next-later, way-step, way_in-after, on_rest, on_first, next_from-there}
 
 pub record IsGrowing (ns : List NodeView) (number : HashNo) (w : Hash64) (rows : List NodeView) (next : Option HashNo) : Type 0 where
   pub len : length rows ≡ length ns
@@ -20,35 +21,16 @@ pub record IsGrowing (ns : List NodeView) (number : HashNo) (w : Hash64) (rows :
   pub each : (k : ℕ) → k < length ns
       → node_at rows k ≡ cond (is_on (left_way ns w next) k) (node_at ns k) (cond (is_on (way ns w) k) (grown number w (node_at ns k)) (node_at ns k))
 
-none_some : (c : HashNo) → None ≡ Some c → ⊥
-none_some c e = cc
-
-or_true : (b c : Bool) → c ≡ true → (b || c) ≡ true
-or_true true c e = refl
-or_true false c e = e
-
-not_on : (b : Bool) → (b ≡ true → ⊥) → b ≡ false
-not_on true h = absurd (h refl)
-not_on false h = refl
-
-next_if-size : (b : Bool) (x y : Option HashNo) (F : ℕ → ℕ) (c : HashNo) → cond b x y ≡ Some c → F c.0 ≤ at_part x F + at_part y F
-next_if-size true x y F c e = rw e (omega arith)
-next_if-size false x y F c e = rw e (omega arith)
-
-next_from-size : (o : Option ℕ) (node : NodeView) (w : Hash64) (F : ℕ → ℕ) (c : HashNo)
-    → option_map_or (λ r. cond (is_within node r w) node.inner node.outer) o None ≡ Some c → F c.0 ≤ at_part node.inner F + at_part node.outer F
-next_from-size None node w F c e = absurd (none_some c e)
-next_from-size (Some r) node w F c e = next_if-size (is_within node r w) node.inner node.outer F c e
-
 next-size : (ns : List NodeView) (w : Hash64) (k : ℕ) (c : HashNo) → IsTree ns → k < length ns → next_of (node_at ns k) w ≡ Some c → size ns c.0 ≤ size ns k
 next-size ns w k c T lt e =
-    omega (arith, total-step ns (λ _. 1) k T.linked.later lt, next_from-size (node_at ns k).radius (node_at ns k) w (size ns) c e)
+    let there : (s : Side) × (part s (node_at ns k) ≡ Some c) = next_from-there (node_at ns k).radius (node_at ns k) w c e in
+    child-le ns (λ _. 1) k there.0 c T.linked.later lt there.1
 
 later_way : (ns : List NodeView) (w : Hash64) (k : ℕ) (next : Option HashNo) → IsTree ns
     → ((c : HashNo) → next ≡ Some c → (k < c.0) × (c.0 < length ns)) → is_on (left_way ns w next) k ≡ false
 later_way ns w k None T h = refl
 later_way ns w k (Some c) T h =
-    not_on (is_on (left_way ns w (Some c)) k) (λ on. let after : (c.0 ≤ k) × (k < length ns) = way_in-after (length ns) ns w c.0 k T.linked.later (h c refl).1 on in omega (arith, after.0, (h c refl).0))
+    false_from_ne_true (is_on (left_way ns w (Some c)) k) (λ on. let after : (c.0 ≤ k) × (k < length ns) = way_in-after (length ns) ns w c.0 k T.linked.later (h c refl).1 on in omega (arith, after.0, (h c refl).0))
 
 -- the node that is read is still as it was
 pub growing-node : (ns : List NodeView) (number : HashNo) (w : Hash64) (rows : List NodeView) (at : HashNo) → IsTree ns
@@ -80,7 +62,7 @@ growing-more ns number w rows at T G =
     record {
       len = length-set rows at.0 (grown number w (node_at ns at.0)) ∙ G.len;
       inside = λ c e. ((next-later ns w at.0 c T.linked.later lt e).1, omega (arith, next-size ns w at.0 c T lt e, (G.inside at refl).1));
-      on = λ k h. G.on k (ap (λ ks. is_on ks k) step ∙ or_true (at.0 == k) (is_on (left_way ns w (next_of (node_at ns at.0) w)) k) h);
+      on = λ k h. G.on k (ap (λ ks. is_on ks k) step ∙ or_right (at.0 == k) (is_on (left_way ns w (next_of (node_at ns at.0) w)) k) h);
       each = λ k kn. elim (eqb_tells at.0 k) [
         | inl same ↦ same_node ns number w rows at k T G lt same.1
         | inr other ↦

@@ -1,7 +1,8 @@
 -- A node before and after a new point is below it.
 use Rattle.std.proofs.Common.{◌≡◌, ◌∙◌, ℕ, ◌+◌, ◌<◌, ◌≤◌, nat_le, not, Bool, true, false, cond, Option, Some, None, unwrap_or, ◌⊎◌, inl, inr, refl, sym, ap, arith}
 use Rattle.std.specs.Option.{option_map_or}
-use Rattle.std.proofs.lemmas.Bool.Decides.{nat_tests}
+use Rattle.std.proofs.lemmas.Bool.{both_ways, cond_both, leb-false, leb-true, not-true}
+use Rattle.std.proofs.lemmas.Option.{same_Some}
 use Rattle.media_types.specs.Distance.{distance_of}
 use Rattle.media_types.specs.declared.hash.Hash64.{Hash64}
 use Rattle.media_types.specs.declared.numbers.HashNo.{HashNo}
@@ -31,18 +32,6 @@ abbrev grown_at : Option ℕ → HashNo → Hash64 → NodeView → NodeView
 grown_at o number w v =
     option_map_or (grown_by number w v) o (record v { radius = Some (distance_of w v.word); inner = Some number; below = v.below + 1 })
 
-if-word : (b : Bool) (x y : NodeView) (w : Hash64) → x.word ≡ w → y.word ≡ w → (cond b x y).word ≡ w
-if-word true x y w p q = p
-if-word false x y w p q = q
-
-if-radius : (b : Bool) (x y : NodeView) (r : Option ℕ) → x.radius ≡ r → y.radius ≡ r → (cond b x y).radius ≡ r
-if-radius true x y r p q = p
-if-radius false x y r p q = q
-
-if-below : (b : Bool) (x y : NodeView) (n : ℕ) → x.below ≡ n → y.below ≡ n → (cond b x y).below ≡ n
-if-below true x y n p q = p
-if-below false x y n p q = q
-
 if-part : (s : Side) (b : Bool) (x y : NodeView) → part s (cond b x y) ≡ cond b (part s x) (part s y)
 if-part s true x y = refl
 if-part s false x y = refl
@@ -53,14 +42,14 @@ turned false x y = refl
 
 word-at : (o : Option ℕ) (number : HashNo) (w : Hash64) (v : NodeView) → (grown_at o number w v).word ≡ v.word
 word-at None number w v = refl
-word-at (Some r) number w v = if-word (is_within v r w) _ _ v.word refl refl
+word-at (Some r) number w v = cond_both (is_within v r w) _ _ (λ (x : NodeView). x.word ≡ v.word) (λ _. refl) (λ _. refl)
 
 pub grown-word : (number : HashNo) (w : Hash64) (v : NodeView) → (grown number w v).word ≡ v.word
 grown-word number w v = word-at v.radius number w v
 
 below-at : (o : Option ℕ) (number : HashNo) (w : Hash64) (v : NodeView) → (grown_at o number w v).below ≡ v.below + 1
 below-at None number w v = refl
-below-at (Some r) number w v = if-below (is_within v r w) _ _ (v.below + 1) refl refl
+below-at (Some r) number w v = cond_both (is_within v r w) _ _ (λ (x : NodeView). x.below ≡ v.below + 1) (λ _. refl) (λ _. refl)
 
 pub grown-below : (number : HashNo) (w : Hash64) (v : NodeView) → (grown number w v).below ≡ v.below + 1
 grown-below number w v = below-at v.radius number w v
@@ -68,7 +57,7 @@ grown-below number w v = below-at v.radius number w v
 radius-at : (o : Option ℕ) (number : HashNo) (w : Hash64) (v : NodeView) → v.radius ≡ o
     → (grown_at o number w v).radius ≡ Some (unwrap_or o (distance_of w v.word))
 radius-at None number w v e = refl
-radius-at (Some r) number w v e = if-radius (is_within v r w) _ _ (Some r) e e
+radius-at (Some r) number w v e = cond_both (is_within v r w) _ _ (λ (x : NodeView). x.radius ≡ Some r) (λ _. e) (λ _. e)
 
 pub grown-radius : (number : HashNo) (w : Hash64) (v : NodeView) → (grown number w v).radius ≡ Some (unwrap_or v.radius (distance_of w v.word))
 grown-radius number w v = radius-at v.radius number w v refl
@@ -82,10 +71,6 @@ part-at outward (Some r) number w v bare = if-part outward (is_within v r w) _ _
 
 pub grown-part : (s : Side) (number : HashNo) (w : Hash64) (v : NodeView) → IsBare v → part s (grown number w v) ≡ hung (leads s v w) number (part s v)
 grown-part s number w v bare = part-at s v.radius number w v (bare s)
-
-not-true : (b : Bool) → not b ≡ true → b ≡ false
-not-true true e = absurd cc
-not-true false e = refl
 
 next-at : (s : Side) (o : Option ℕ) (v : NodeView) (w : Hash64) → (o ≡ None → part s v ≡ None) → leads_at s o v w ≡ true
     → option_map_or (λ r. cond (is_within v r w) v.inner v.outer) o None ≡ part s v
@@ -106,48 +91,35 @@ side_by false o v w e = (outward, ap not e)
 pub side_of : (v : NodeView) (w : Hash64) → (s : Side) × (leads s v w ≡ true)
 side_of v w = side_by (leads_in v.radius v w) v.radius v w refl
 
-not_both : (b : Bool) → b ≡ true → not b ≡ true → ⊥
-not_both true e f = cc
-not_both false e f = cc
-
 pub one_side : (s t : Side) (v : NodeView) (w : Hash64) → leads s v w ≡ true → leads t v w ≡ true → s ≡ t
 one_side inward inward v w p q = refl
-one_side inward outward v w p q = absurd (not_both (leads_in v.radius v w) p q)
-one_side outward inward v w p q = absurd (not_both (leads_in v.radius v w) q p)
+one_side inward outward v w p q = absurd (both_ways (leads_in v.radius v w) (not-true (leads_in v.radius v w) q) p)
+one_side outward inward v w p q = absurd (both_ways (leads_in v.radius v w) (not-true (leads_in v.radius v w) p) q)
 one_side outward outward v w p q = refl
-
-same_number : (m n : ℕ) → Some m ≡ Some n → m ≡ n
-same_number m n e = ap (λ o. unwrap_or o 0) e
-
-within_true : (m n : ℕ) → nat_le m n ≡ true → m ≤ n
-within_true m n e = grind (arith, nat_tests)
-
-beyond_true : (m n : ℕ) → not (nat_le m n) ≡ true → n < m
-beyond_true m n e = grind (arith, nat_tests)
 
 near-at : (o : Option ℕ) (v : NodeView) (w : Hash64) → leads_at inward o v w ≡ true → distance_of w v.word ≤ unwrap_or o (distance_of w v.word)
 near-at None v w e = omega arith
-near-at (Some r) v w e = within_true (distance_of w v.word) r e
+near-at (Some r) v w e = leb-true (distance_of w v.word) r e
 
 far-at : (o : Option ℕ) (v : NodeView) (w : Hash64) → leads_at outward o v w ≡ true → unwrap_or o (distance_of w v.word) < distance_of w v.word
 far-at None v w e = absurd cc
-far-at (Some r) v w e = beyond_true (distance_of w v.word) r e
+far-at (Some r) v w e = leb-false (distance_of w v.word) r (not-true (nat_le (distance_of w v.word) r) e)
 
 -- the new point lies on the side to which its word leads
 pub grown-near : (number : HashNo) (w : Hash64) (v : NodeView) (r : ℕ) → leads inward v w ≡ true → (grown number w v).radius ≡ Some r → distance_of w v.word ≤ r
 grown-near number w v r e f =
-    let is : unwrap_or v.radius (distance_of w v.word) ≡ r = same_number _ r (sym (grown-radius number w v) ∙ f) in
+    let is : unwrap_or v.radius (distance_of w v.word) ≡ r = same_Some _ r (sym (grown-radius number w v) ∙ f) in
     omega (arith, is, near-at v.radius v w e)
 
 pub grown-far : (number : HashNo) (w : Hash64) (v : NodeView) (r : ℕ) → leads outward v w ≡ true → (grown number w v).radius ≡ Some r → r < distance_of w v.word
 grown-far number w v r e f =
-    let is : unwrap_or v.radius (distance_of w v.word) ≡ r = same_number _ r (sym (grown-radius number w v) ∙ f) in
+    let is : unwrap_or v.radius (distance_of w v.word) ≡ r = same_Some _ r (sym (grown-radius number w v) ∙ f) in
     omega (arith, is, far-at v.radius v w e)
 
 -- what hangs on a side hung there before, or is the new point
 pub hung-child : (o : Option HashNo) (b : Bool) (number c : HashNo) → hung b number o ≡ Some c
     → (o ≡ Some c) ⊎ ((b ≡ true) × (o ≡ None) × (c ≡ number))
-hung-child None true number c e = inr (refl, refl, sym (ap (λ o. unwrap_or o number) e))
+hung-child None true number c e = inr (refl, refl, sym (same_Some number c e))
 hung-child None false number c e = absurd cc
 hung-child (Some d) true number c e = inl e
 hung-child (Some d) false number c e = inl e

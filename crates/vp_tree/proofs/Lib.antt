@@ -14,3 +14,4 @@ pub mod Sorting
 pub mod Tables
 pub mod Times
 pub mod Ways
+pub mod Words

@@ -1,18 +1,22 @@
 -- A tree in which a word was placed is a tree.
 use Rattle.std.proofs.Common.{◌≡◌, ◌≢◌, ◌∙◌, ℕ, zero, suc, ◌+◌, ◌<◌, ◌≤◌, ◌&&◌, ◌⊎◌, not, Bool, true, false, cond, List, All, [], ◌∷◌, ◌++◌, length, Option, Some, None, unwrap_or, refl, sym, ap, inl, inr, arith}
+use Rattle.std.proofs.lemmas.Bool.{and_from, and_parts, both_ways, cond-false, cond-true, cond_both, false_from_ne_true}
 use Rattle.std.proofs.lemmas.Bool.Decides.{eqb_tells}
 use Rattle.std.proofs.lemmas.List.{length-append, get_or_append_left, get_or_push}
+use Rattle.std.proofs.lemmas.Option.{none-some}
 use Rattle.media_types.specs.Distance.{distance_of}
 use Rattle.media_types.specs.declared.hash.Hash64.{Hash64}
+use Rattle.media_types.specs.declared.limits.TheConstants.{MAX_WORDS}
 use Rattle.media_types.specs.declared.numbers.HashNo.{HashNo}
 use Rattle.vp_tree.specs.declared.node.NodeView.{NodeView}
-use Rattle.vp_tree.specs.Nodes.{leaf, node_at, at_part, total_in, total, one_at, times, size}
+use Rattle.vp_tree.specs.Nodes.{leaf, node_at, at_part, total, one_at, times, size}
 use Rattle.vp_tree.specs.Placing.{next_of, way, is_on, grown, IsPlaced}
 use Rattle.vp_tree.specs.Shape.{Side, inward, outward, part, ComeLater, IsLinked, IsTree}
-use Rattle.vp_tree.proofs.Branches.{at_part-none, total-step}
-use Rattle.vp_tree.proofs.Sorting.{one_at-other, one_at-same}
-use Rattle.vp_tree.proofs.Ways.{way_in-after, way_in-parent, way_in-child, way_in-end, way_in-first}
+use Rattle.vp_tree.proofs.Branches.{total-step}
 use Rattle.vp_tree.proofs.Grown.{leads, IsBare, hung, hung-child, grown-word, grown-below, grown-radius, grown-part, grown-near, grown-far, next-leads, side_of, one_side}
+use Rattle.vp_tree.proofs.Sorting.{one_at-other, one_at-same}
+use Rattle.vp_tree.proofs.Times.{total_in-none}
+use Rattle.vp_tree.proofs.Ways.{way_in-after, way_in-parent, way_in-child, way_in-end, way_in-first}
 
 abbrev number_of : List NodeView → HashNo
 number_of ns = record { 0 = length ns }
@@ -33,7 +37,7 @@ word_at : (b : Bool) (ns ms : List NodeView) (w : Hash64) (k : ℕ) → IsPlaced
 word_at true ns ms w k P lt e = ap (λ v. v.word) (at_on ns ms w k P lt e) ∙ grown-word (number_of ns) w (node_at ns k)
 word_at false ns ms w k P lt e = ap (λ v. v.word) (at_off ns ms w k P lt e)
 
-old_word : (ns ms : List NodeView) (w : Hash64) (k : ℕ) → IsPlaced ns ms w → k < length ns → (node_at ms k).word ≡ (node_at ns k).word
+pub old_word : (ns ms : List NodeView) (w : Hash64) (k : ℕ) → IsPlaced ns ms w → k < length ns → (node_at ms k).word ≡ (node_at ns k).word
 old_word ns ms w k P lt = word_at (is_on (way ns w) k) ns ms w k P lt refl
 
 part_at : (b : Bool) (s : Side) (ns ms : List NodeView) (w : Hash64) (k : ℕ) → IsTree ns → IsPlaced ns ms w → k < length ns → is_on (way ns w) k ≡ b
@@ -51,21 +55,8 @@ last_part : (s : Side) (ns ms : List NodeView) (w : Hash64) → IsPlaced ns ms w
 last_part inward ns ms w P = ap (λ v. v.inner) P.last
 last_part outward ns ms w P = ap (λ v. v.outer) P.last
 
-none_some : (c : HashNo) → None ≡ Some c → ⊥
-none_some c e = cc
-
-some_radius : (r : ℕ) → Some r ≡ None → ⊥
-some_radius r e = cc
-
 pub old_or_last : (k n : ℕ) → k < n + 1 → (k < n) ⊎ (k ≡ n)
 old_or_last k n lt = elim (eqb_tells k n) [ inl same ↦ inr same.1 | inr other ↦ inl (omega (arith, lt, other.1)) ]
-
-both_true : (a b : Bool) → (a && b) ≡ true → (a ≡ true) × (b ≡ true)
-both_true true b e = (refl, e)
-both_true false b e = absurd cc
-
-both : (a b : Bool) → a ≡ true → b ≡ true → (a && b) ≡ true
-both a b p q = rw (p, q) refl
 
 -- a child of an old node hung there before, or is the new point at the end of the word's way
 child_at : (s : Side) (ns ms : List NodeView) (w : Hash64) (k : ℕ) (c : HashNo) → IsTree ns → IsPlaced ns ms w → k < length ns
@@ -82,13 +73,13 @@ placed-later ns ms w T P k s c lt e =
         | inl was ↦ let l : (k < c.0) × (c.0 < length ns) = T.linked.later k s c old was in (l.0, omega (arith, l.1, P.len))
         | inr now ↦ let n : c.0 ≡ length ns = ap (λ (d : HashNo). d.0) now.2 in (omega (arith, n, old), omega (arith, n, P.len))
       ]
-      | inr last ↦ absurd (none_some c (sym (last_part s ns ms w P) ∙ ap (λ i. part s (node_at ms i)) (sym last) ∙ e))
+      | inr last ↦ absurd (none-some c (sym (last_part s ns ms w P) ∙ ap (λ i. part s (node_at ms i)) (sym last) ∙ e))
     ]
 
 end_at : (s : Side) (ns : List NodeView) (w : Hash64) (k : ℕ) → IsTree ns → k < length ns
     → (is_on (way ns w) k && leads s (node_at ns k) w) ≡ true → part s (node_at ns k) ≡ None → next_of (node_at ns k) w ≡ None
 end_at s ns w k T lt on none =
-    next-leads s (node_at ns k) w (bare_at ns T k lt) (both_true (is_on (way ns w) k) (leads s (node_at ns k) w) on).1 ∙ none
+    next-leads s (node_at ns k) w (bare_at ns T k lt) (and_parts (is_on (way ns w) k) (leads s (node_at ns k) w) on).1 ∙ none
 
 placed-single-old : (i k : ℕ) (s t : Side) (ns ms : List NodeView) (w : Hash64) (c : HashNo) → IsTree ns → IsPlaced ns ms w → i < length ns → k < length ns
     → part s (node_at ms i) ≡ Some c → part t (node_at ms k) ≡ Some c → (i ≡ k) × (s ≡ t)
@@ -101,32 +92,21 @@ placed-single-old i k s t ns ms w c T P li lk ei ek =
       | inr now ↦ elim (child_at t ns ms w k c T P lk ek) [
         | inl was ↦ absurd (let n : c.0 ≡ length ns = ap (λ (d : HashNo). d.0) now.2 in let l = (T.linked.later k t c lk was).1 in omega (arith, n, l))
         | inr also ↦
-            let on_i = both_true (is_on (way ns w) i) (leads s (node_at ns i) w) now.0 in
-            let on_k = both_true (is_on (way ns w) k) (leads t (node_at ns k) w) also.0 in
+            let on_i = and_parts (is_on (way ns w) i) (leads s (node_at ns i) w) now.0 in
+            let on_k = and_parts (is_on (way ns w) k) (leads t (node_at ns k) w) also.0 in
             let same : i ≡ k = way_in-end (length ns) ns w 0 i k on_i.0 on_k.0 (end_at s ns w i T li now.0 now.1) (end_at t ns w k T lk also.0 also.1) in
             (same, one_side s t (node_at ns k) w (ap (λ j. leads s (node_at ns j) w) (sym same) ∙ on_i.1) on_k.1)
       ]
     ]
 
-abbrev one_if : Bool → ℕ
-one_if b = cond b 1 0
-
--- an old child is on the way where its node is and the word leads to its side
-not_on : (b : Bool) → (b ≡ true → ⊥) → b ≡ false
-not_on true h = absurd (h refl)
-not_on false h = refl
-
-true_false : (b : Bool) → b ≡ true → b ≡ false → ⊥
-true_false b p q = cc
-
 on_child : (b : Bool) (s : Side) (ns : List NodeView) (w : Hash64) (k : ℕ) (c : HashNo) → IsTree ns → k < length ns
     → part s (node_at ns k) ≡ Some c → (is_on (way ns w) k && leads s (node_at ns k) w) ≡ b → is_on (way ns w) c.0 ≡ b
 on_child true s ns w k c T lt e on =
-    let parts = both_true (is_on (way ns w) k) (leads s (node_at ns k) w) on in
+    let parts = and_parts (is_on (way ns w) k) (leads s (node_at ns k) w) on in
     way_in-child (length ns) ns w 0 k c T.linked.later (omega (arith, lt)) (omega arith) parts.0
     (next-leads s (node_at ns k) w (bare_at ns T k lt) parts.1 ∙ e)
 on_child false s ns w k c T lt e off =
-    not_on (is_on (way ns w) c.0) (λ on.
+    false_from_ne_true (is_on (way ns w) c.0) (λ on.
     let later = (T.linked.later k s c lt e).0 in
     let parent : (p : ℕ) × (is_on (way ns w) p ≡ true) × (next_of (node_at ns p) w ≡ Some (record { 0 = c.0 })) =
     way_in-parent (length ns) ns w 0 c.0 (omega (arith, later)) on in
@@ -135,9 +115,9 @@ on_child false s ns w k c T lt e off =
     let same : (k ≡ parent.0) × (s ≡ side.0) =
     T.linked.single k parent.0 s side.0 c lt there e
     (sym (next-leads side.0 (node_at ns parent.0) w (bare_at ns T parent.0 there) side.1) ∙ parent.2) in
-    true_false (is_on (way ns w) k && leads s (node_at ns k) w)
-    (both (is_on (way ns w) k) (leads s (node_at ns k) w) (ap (is_on (way ns w)) same.0 ∙ parent.1)
-    (ap (λ j. leads s (node_at ns j) w) same.0 ∙ ap (λ t. leads t (node_at ns parent.0) w) same.1 ∙ side.1)) off)
+    both_ways (is_on (way ns w) k && leads s (node_at ns k) w) off
+    (and_from (is_on (way ns w) k) (leads s (node_at ns k) w) (ap (is_on (way ns w)) same.0 ∙ parent.1)
+    (ap (λ j. leads s (node_at ns j) w) same.0 ∙ ap (λ t. leads t (node_at ns parent.0) w) same.1 ∙ side.1)))
 
 -- the sum over a part, once the new point may hang there
 at_part-hung : (o now : Option HashNo) (b : Bool) (ns ms : List NodeView) (g : ℕ → ℕ) → now ≡ hung b (number_of ns) o
@@ -186,26 +166,12 @@ placed-total : (ns ms : List NodeView) (w : Hash64) (g : ℕ → ℕ) (k : ℕ) 
     → k < length ns → total ms g k ≡ total ns g k + cond (is_on (way ns w) k) (g (length ns)) 0
 placed-total ns ms w g k T P lt = grown_total (length ns) ns ms w g k T (placed-later ns ms w T P) P lt (omega arith)
 
-total_in-zero : (f : ℕ) (ns : List NodeView) (g : ℕ → ℕ) (k : ℕ) → ComeLater ns → ((i : ℕ) → i < length ns → g i ≡ 0) → k < length ns → total_in f ns g k ≡ 0
-total_in-zero zero ns g k L h lt = refl
-total_in-zero (suc f) ns g k L h lt =
-    omega (
-      arith,
-      h k lt,
-      at_part-none (node_at ns k).inner (total_in f ns g) (λ c e. total_in-zero f ns g c.0 L h (L k inward c lt e).1),
-      at_part-none (node_at ns k).outer (total_in f ns g) (λ c e. total_in-zero f ns g c.0 L h (L k outward c lt e).1),
-    )
-
 -- no branch of the old tree has the new number
 absent : (ns : List NodeView) (k : ℕ) → IsTree ns → k < length ns → times ns k (length ns) ≡ 0
-absent ns k T lt = total_in-zero (length ns) ns (one_at (length ns)) k T.linked.later (λ i h. one_at-other (length ns) i (omega (arith, h))) lt
+absent ns k T lt = total_in-none (length ns) ns (one_at (length ns)) 0 k T.linked.later (λ i _ h. one_at-other (length ns) i (omega (arith, h))) (omega arith) lt
 
 on_root : (ns : List NodeView) (w : Hash64) → 0 < length ns → is_on (way ns w) 0 ≡ true
 on_root ns w h = way_in-first (length ns) ns w 0 h
-
-cond_zero : (b : Bool) (n : ℕ) → n ≡ 0 → cond b n 0 ≡ 0
-cond_zero true n e = e
-cond_zero false n e = refl
 
 cond_on : (b : Bool) (n : ℕ) → 1 ≤ cond b n 0 → b ≡ true
 cond_on true n h = refl
@@ -217,7 +183,7 @@ old_times ns ms w k j T P lk lj =
     omega (
       arith,
       placed-total ns ms w (one_at j) k T P lk,
-      cond_zero (is_on (way ns w) k) (one_at j (length ns)) (one_at-other j (length ns) (omega (arith, lj))),
+      cond_both (is_on (way ns w) k) (one_at j (length ns)) 0 (λ n. n ≡ 0) (λ _. one_at-other j (length ns) (omega (arith, lj))) (λ _. refl),
     )
 
 last_times : (ns ms : List NodeView) (w : Hash64) (j : ℕ) → IsTree ns → IsPlaced ns ms w → j < length ns → times ms (length ns) j ≡ 0
@@ -248,8 +214,8 @@ root_size zero ns ms w T P e =
     ap (size ms) (sym root) ∙ last_total ns ms w (λ _. 1) (placed-later ns ms w T P) P ∙ omega (arith, root)
 root_size (suc n) ns ms w T P e =
     let some : 0 < length ns = omega (arith, e) in
-    let grows : size ms 0 ≡ size ns 0 + one_if (is_on (way ns w) 0) = placed-total ns ms w (λ _. 1) 0 T P some in
-    let new : one_if (is_on (way ns w) 0) ≡ 1 = ap one_if (on_root ns w some) in
+    let grows : size ms 0 ≡ size ns 0 + cond (is_on (way ns w) 0) 1 0 = placed-total ns ms w (λ _. 1) 0 T P some in
+    let new = cond-true {A = ℕ} (is_on (way ns w) 0) 1 0 (on_root ns w some) in
     omega (arith, grows, new, T.linked.all some)
 
 placed-single : (ns ms : List NodeView) (w : Hash64) → IsTree ns → IsPlaced ns ms w → (i k : ℕ) (s t : Side) (c : HashNo) → i < length ms → k < length ms
@@ -258,9 +224,9 @@ placed-single ns ms w T P i k s t c li lk ei ek =
     elim (old_or_last i (length ns) (omega (arith, li, P.len))) [
       | inl old ↦ elim (old_or_last k (length ns) (omega (arith, lk, P.len))) [
         | inl also ↦ placed-single-old i k s t ns ms w c T P old also ei ek
-        | inr last ↦ absurd (none_some c (sym (last_part t ns ms w P) ∙ ap (λ j. part t (node_at ms j)) (sym last) ∙ ek))
+        | inr last ↦ absurd (none-some c (sym (last_part t ns ms w P) ∙ ap (λ j. part t (node_at ms j)) (sym last) ∙ ek))
       ]
-      | inr last ↦ absurd (none_some c (sym (last_part s ns ms w P) ∙ ap (λ j. part s (node_at ms j)) (sym last) ∙ ei))
+      | inr last ↦ absurd (none-some c (sym (last_part s ns ms w P) ∙ ap (λ j. part s (node_at ms j)) (sym last) ∙ ei))
     ]
 
 placed-linked : (ns ms : List NodeView) (w : Hash64) → IsTree ns → IsPlaced ns ms w → IsLinked ms
@@ -281,7 +247,7 @@ radius_kept true ns ms w k r (Some x) P lt e er some f =
 radius_kept false ns ms w k r (Some x) P lt e er some f = sym (ap (λ v. v.radius) (at_off ns ms w k P lt e)) ∙ f
 
 had_radius : (ns : List NodeView) (k : ℕ) (s : Side) (c : HashNo) → IsTree ns → k < length ns → part s (node_at ns k) ≡ Some c → (node_at ns k).radius ≡ None → ⊥
-had_radius ns k s c T lt e none = none_some c (sym (T.cut.bare k s lt none) ∙ e)
+had_radius ns k s c T lt e none = none-some c (sym (T.cut.bare k s lt none) ∙ e)
 
 -- what a part holds on each side: an old node as before, and the new point only on its side
 cut_at : (s : Side) (ns ms : List NodeView) (w : Hash64) (k j r : ℕ) (c : HashNo) → IsTree ns → IsPlaced ns ms w → k < length ns → j < length ns + 1
@@ -304,12 +270,12 @@ cut_at s ns ms w k j r c T P lk lj er ec has =
                 placed-total ns ms w (one_at (length ns)) c.0 T P l.1 in
                 let here : 1 ≤ times ms c.0 (length ns) = omega (arith, has, ap (times ms c.0) last) in
                 let on : is_on (way ns w) c.0 ≡ true = cond_on (is_on (way ns w) c.0) (one_at (length ns) (length ns)) (omega (arith, grows, here, absent ns c.0 T l.1)) in
-                let parts : (is_on (way ns w) k ≡ true) × (leads s (node_at ns k) w ≡ true) = both_true (is_on (way ns w) k) (leads s (node_at ns k) w)
+                let parts : (is_on (way ns w) k ≡ true) × (leads s (node_at ns k) w ≡ true) = and_parts (is_on (way ns w) k) (leads s (node_at ns k) w)
                 (sym (on_child (is_on (way ns w) k && leads s (node_at ns k) w) s ns w k c T lk was refl) ∙ on) in
                 inr (last, parts.0, parts.1)
           ]
       | inr now ↦
-          let parts : (is_on (way ns w) k ≡ true) × (leads s (node_at ns k) w ≡ true) = both_true (is_on (way ns w) k) (leads s (node_at ns k) w) now.0 in
+          let parts : (is_on (way ns w) k ≡ true) × (leads s (node_at ns k) w ≡ true) = and_parts (is_on (way ns w) k) (leads s (node_at ns k) w) now.0 in
           let n : c.0 ≡ length ns = ap (λ (d : HashNo). d.0) now.2 in
           elim (old_or_last j (length ns) lj) [
             | inl old ↦ absurd (omega (arith, has, ap (λ i. times ms i j) n, last_times ns ms w j T P old))
@@ -327,7 +293,7 @@ placed-near ns ms w T P k j r c lk lj er ec has =
         | inr now ↦ rw (ap (λ i. (node_at ms i).word) now.0 ∙ ap (λ v. v.word) P.last, old_word ns ms w k P old)
             (grown-near (number_of ns) w (node_at ns k) r now.2 (sym (ap (λ v. v.radius) (at_on ns ms w k P old now.1)) ∙ er))
       ]
-      | inr last ↦ absurd (none_some c (sym (last_part inward ns ms w P) ∙ ap (λ i. part inward (node_at ms i)) (sym last) ∙ ec))
+      | inr last ↦ absurd (none-some c (sym (last_part inward ns ms w P) ∙ ap (λ i. part inward (node_at ms i)) (sym last) ∙ ec))
     ]
 
 placed-far : (ns ms : List NodeView) (w : Hash64) → IsTree ns → IsPlaced ns ms w → (k j r : ℕ) (c : HashNo) → k < length ms → j < length ms
@@ -340,13 +306,13 @@ placed-far ns ms w T P k j r c lk lj er ec has =
         | inr now ↦ rw (ap (λ i. (node_at ms i).word) now.0 ∙ ap (λ v. v.word) P.last, old_word ns ms w k P old)
             (grown-far (number_of ns) w (node_at ns k) r now.2 (sym (ap (λ v. v.radius) (at_on ns ms w k P old now.1)) ∙ er))
       ]
-      | inr last ↦ absurd (none_some c (sym (last_part outward ns ms w P) ∙ ap (λ i. part outward (node_at ms i)) (sym last) ∙ ec))
+      | inr last ↦ absurd (none-some c (sym (last_part outward ns ms w P) ∙ ap (λ i. part outward (node_at ms i)) (sym last) ∙ ec))
     ]
 
 bare_old : (b : Bool) (s : Side) (ns ms : List NodeView) (w : Hash64) (k : ℕ) → IsTree ns → IsPlaced ns ms w → k < length ns → is_on (way ns w) k ≡ b
     → (node_at ms k).radius ≡ None → part s (node_at ms k) ≡ None
 bare_old true s ns ms w k T P lt e none =
-    absurd (some_radius _ (sym (ap (λ v. v.radius) (at_on ns ms w k P lt e) ∙ grown-radius (number_of ns) w (node_at ns k)) ∙ none))
+    absurd (none-some _ (sym none ∙ ap (λ v. v.radius) (at_on ns ms w k P lt e) ∙ grown-radius (number_of ns) w (node_at ns k)))
 bare_old false s ns ms w k T P lt e none =
     let same : node_at ms k ≡ node_at ns k = at_off ns ms w k P lt e in
     ap (part s) same ∙ T.cut.bare k s lt (sym (ap (λ v. v.radius) same) ∙ none)
@@ -362,12 +328,12 @@ placed-bare ns ms w T P k s lt none =
 below_old : (b : Bool) (ns ms : List NodeView) (w : Hash64) (k : ℕ) → IsTree ns → IsPlaced ns ms w → k < length ns → is_on (way ns w) k ≡ b
     → (node_at ms k).below + 1 ≡ size ms k
 below_old true ns ms w k T P lt e =
-    let grows : size ms k ≡ size ns k + one_if (is_on (way ns w) k) = placed-total ns ms w (λ _. 1) k T P lt in
-    let new : one_if (is_on (way ns w) k) ≡ 1 = ap one_if e in
+    let grows : size ms k ≡ size ns k + cond (is_on (way ns w) k) 1 0 = placed-total ns ms w (λ _. 1) k T P lt in
+    let new = cond-true {A = ℕ} (is_on (way ns w) k) 1 0 e in
     omega (arith, grows, new, T.below k lt, ap (λ v. v.below) (at_on ns ms w k P lt e), grown-below (number_of ns) w (node_at ns k))
 below_old false ns ms w k T P lt e =
-    let grows : size ms k ≡ size ns k + one_if (is_on (way ns w) k) = placed-total ns ms w (λ _. 1) k T P lt in
-    let new : one_if (is_on (way ns w) k) ≡ 0 = ap one_if e in
+    let grows : size ms k ≡ size ns k + cond (is_on (way ns w) k) 1 0 = placed-total ns ms w (λ _. 1) k T P lt in
+    let new = cond-false {A = ℕ} (is_on (way ns w) k) 1 0 e in
     omega (arith, grows, new, T.below k lt, ap (λ v. v.below) (at_off ns ms w k P lt e))
 
 placed-below : (ns ms : List NodeView) (w : Hash64) → IsTree ns → IsPlaced ns ms w → (k : ℕ) → k < length ms → (node_at ms k).below + 1 ≡ size ms k
@@ -404,7 +370,7 @@ pushed-placed ns rows ms w number n len each e = record {
   last = ap (λ xs. node_at xs (length ns)) e ∙ get_or_push rows (leaf w) (leaf (record { 0 = 0 })) (length ns) len;
 }
 
-pub placed-tree : (ns ms : List NodeView) (w : Hash64) → IsTree ns → IsPlaced ns ms w → length ns < 4000000 → All (λ node. node.word ≢ w) ns → IsTree ms
+pub placed-tree : (ns ms : List NodeView) (w : Hash64) → IsTree ns → IsPlaced ns ms w → length ns < MAX_WORDS → All (λ node. node.word ≢ w) ns → IsTree ms
 placed-tree ns ms w T P few other = record {
   few = omega (arith, few, P.len);
   linked = placed-linked ns ms w T P;

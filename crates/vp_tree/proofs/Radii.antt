@@ -1,6 +1,7 @@
 -- The least radius within which at least half of some points lie.
 use Rattle.std.proofs.Common.{◌≡◌, ◌∙◌, ℕ, zero, suc, ◌+◌, ◌*◌, ◌<◌, ◌≤◌, ◌==◌, nat_le, nat_lt, Bool, true, false, cond, List, [], ◌∷◌, length, count_by, take, get_or, refl, sym, ap, inl, inr, arith}
 use Rattle.std.proofs.Math.ListN.{set}
+use Rattle.std.proofs.lemmas.Bool.{both_ways, cond_both, le-leb, le-ltb, lt-leb}
 use Rattle.std.proofs.lemmas.Bool.Decides.{nat_tests, eqb_tells}
 use Rattle.std.proofs.lemmas.List.{get_or-set_same, get_or-set_other, length-take}
 use Rattle.std.proofs.lemmas.List.Sums.{count_by_more_yes, count_by_more_no, count_by-le-length, length-filter, sum_by-cons}
@@ -59,7 +60,7 @@ nearer-add p qs r n m e f = omega (arith, e, f, nearer-more p qs r)
 pub none-nearer : (p : Point) (qs : List Point) → count_by (λ x. nat_lt (away p x) 0) qs ≡ 0
 none-nearer p [] = refl
 none-nearer p (q ∷ qs) =
-    let none : nat_lt (away p q) 0 ≡ false = grind (arith, nat_tests) in
+    let none : nat_lt (away p q) 0 ≡ false = le-ltb (away p q) 0 (omega arith) in
     omega (arith, sum_by-cons (λ x. one_if (nat_lt (away p x) 0)) q qs, ap one_if none, none-nearer p qs)
 
 within_or_nearer : (a r : ℕ) → one_if (nat_le a r) ≡ one_if (nat_lt a (r + 1))
@@ -79,20 +80,11 @@ within-nearer p (q ∷ qs) r =
 length-points_within : (p : Point) (qs : List Point) (r : ℕ) → length (points_within p qs r) ≡ count_by (λ x. nat_lt (away p x) (r + 1)) qs
 length-points_within p qs r = length-filter (λ x. nat_le (away p x) r) qs ∙ within-nearer p qs r
 
-test_true : (m n : ℕ) → m ≤ n → nat_le m n ≡ true
-test_true m n h = grind (arith, nat_tests)
-
-test_false : (m n : ℕ) → n < m → nat_le m n ≡ false
-test_false m n h = grind (arith, nat_tests)
-
 pub half-reached : (p : Point) (qs : List Point) (r n : ℕ) → n ≡ count_by (λ x. nat_lt (away p x) (r + 1)) qs → length qs ≤ 2 * n → has_half p qs r ≡ true
-half-reached p qs r n e h = test_true (length qs) (2 * length (points_within p qs r)) (omega (arith, length-points_within p qs r))
+half-reached p qs r n e h = le-leb (length qs) (2 * length (points_within p qs r)) (omega (arith, length-points_within p qs r))
 
 pub half-missed : (p : Point) (qs : List Point) (r n : ℕ) → n ≡ count_by (λ x. nat_lt (away p x) (r + 1)) qs → 2 * n < length qs → has_half p qs r ≡ false
-half-missed p qs r n e h = test_false (length qs) (2 * length (points_within p qs r)) (omega (arith, length-points_within p qs r))
-
-true_false : (b : Bool) → b ≡ true → b ≡ false → ⊥
-true_false b p q = cc
+half-missed p qs r n e h = lt-leb (length qs) (2 * length (points_within p qs r)) (omega (arith, length-points_within p qs r))
 
 least_from-if : (b : Bool) (more : ℕ) (p : Point) (qs : List Point) (a r : ℕ) → has_half p qs a ≡ b → a ≤ r → r ≤ a + suc more
     → ((s : ℕ) → s < r → has_half p qs s ≡ false) → (r < a + suc more → has_half p qs r ≡ true)
@@ -100,11 +92,11 @@ least_from-if : (b : Bool) (more : ℕ) (p : Point) (qs : List Point) (a r : ℕ
 least_from-if true more p qs a r e le up low here next =
     elim (eqb_tells a r) [
       | inl same ↦ same.1
-      | inr other ↦ absurd (let missed : has_half p qs a ≡ false = low a (omega (arith, le, other.1)) in true_false (has_half p qs a) e missed)
+      | inr other ↦ absurd (let missed : has_half p qs a ≡ false = low a (omega (arith, le, other.1)) in both_ways (has_half p qs a) missed e)
     ]
 least_from-if false more p qs a r e le up low here next =
     elim (eqb_tells a r) [
-      | inl same ↦ absurd (let reached : has_half p qs r ≡ true = here (omega (arith, same.1)) in true_false (has_half p qs a) (ap (has_half p qs) same.1 ∙ reached) e)
+      | inl same ↦ absurd (let reached : has_half p qs r ≡ true = here (omega (arith, same.1)) in both_ways (has_half p qs a) e (ap (has_half p qs) same.1 ∙ reached))
       | inr other ↦ next (omega (arith, le, other.1))
     ]
 
@@ -120,13 +112,9 @@ pub least_radius-is : (p : Point) (qs : List Point) (r : ℕ) → r ≤ 64 → (
 unfolding least_radius
 least_radius-is p qs r up low here = least_from-is 64 p qs 0 r (omega arith) (omega (arith, up)) low (λ lt. here (omega (arith, lt)))
 
-cond_le : (b : Bool) (m n k : ℕ) → m ≤ k → n ≤ k → cond b m n ≤ k
-cond_le true m n k p q = p
-cond_le false m n k p q = q
-
 least_from-le : (more : ℕ) (p : Point) (qs : List Point) (a : ℕ) → least_from more p qs a ≤ a + more
 least_from-le zero p qs a = omega arith
-least_from-le (suc more) p qs a = cond_le (has_half p qs a) a (least_from more p qs (a + 1)) (a + suc more) (omega arith) (omega (arith, least_from-le more p qs (a + 1)))
+least_from-le (suc more) p qs a = cond_both (has_half p qs a) a (least_from more p qs (a + 1)) (λ r. r ≤ a + suc more) (λ _. omega arith) (λ _. omega (arith, least_from-le more p qs (a + 1)))
 
 pub least_radius-le : (p : Point) (qs : List Point) → least_radius p qs ≤ 64
 unfolding least_radius

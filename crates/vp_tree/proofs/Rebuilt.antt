@@ -1,6 +1,7 @@
 -- A tree of which a branch was built anew is a tree.
-use Rattle.std.proofs.Common.{◌≡◌, ◌∙◌, ℕ, zero, suc, ◌+◌, ◌<◌, ◌≤◌, ◌⊎◌, nat_le, nat_lt, true, List, [], ◌∷◌, ◌++◌, length, sum_by, All, Some, None, refl, sym, ap, subst, inl, inr, arith}
-use Rattle.std.proofs.lemmas.Bool.Decides.{nat_tests, eqb_tells}
+use Rattle.std.proofs.Common.{◌≡◌, ◌∙◌, ℕ, zero, suc, ◌+◌, ◌<◌, ◌≤◌, ◌⊎◌, nat_le, nat_lt, true, List, [], ◌∷◌, ◌++◌, length, sum_by, All, Some, None, refl, sym, ap, subst, inl, inr, arith, eq-zero-or-pos}
+use Rattle.std.proofs.lemmas.Bool.{leb-true, ltb-true}
+use Rattle.std.proofs.lemmas.Bool.Decides.{eqb_tells}
 use Rattle.std.proofs.lemmas.List.{get_or_append_left, length-append}
 use Rattle.std.proofs.lemmas.List.Elements.{All-tail, filter_passes}
 use Rattle.std.proofs.lemmas.List.Kept.{AllPairs-filter}
@@ -131,10 +132,6 @@ find-point P (q ∷ qs) j h has =
       | inr other ↦ find-point P qs j (All-tail P q qs h) (omega (arith, has, sum_by-cons (λ q. one_at j q.number.0) q qs, one_at-other j q.number.0 other.1))
     ]
 
-zero_or : (n : ℕ) → (n ≡ 0) ⊎ (1 ≤ n)
-zero_or zero = inl refl
-zero_or (suc n) = inr (omega arith)
-
 whole : (ns ms : List NodeView) (top : ℕ) → IsRebuilt ns ms top → IsBranch ns ms (points ns top)
 whole ns ms top R = record { has = R.built; up = points-up ns top; right = points-right ns top }
 
@@ -146,10 +143,10 @@ built-at ns ms top k T R lt has =
     find-branch (length (points ns top)) ns ms (points ns top) k (omega arith) (whole ns ms top R) (omega (arith, has, points-sum ns (one_at k) top T lt)) in
     (found.0, found.1, ap (node_at ms) (sym found.2) ∙ branch-node ns ms found.0 found.1 found.3, found.2, found.3)
 
-rebuilt-word : (ns ms : List NodeView) (top k : ℕ) → IsTree ns → IsRebuilt ns ms top → top < length ns → k < length ns
+pub rebuilt-word : (ns ms : List NodeView) (top k : ℕ) → IsTree ns → IsRebuilt ns ms top → top < length ns → k < length ns
     → (node_at ms k).word ≡ (node_at ns k).word
 rebuilt-word ns ms top k T R lt lk =
-    elim (zero_or (times ns top k)) [
+    elim (eq-zero-or-pos (times ns top k)) [
       | inl out ↦ ap (λ v. v.word) (R.other k lk out)
       | inr has ↦
           let b = built-at ns ms top k T R lt has in
@@ -159,7 +156,7 @@ rebuilt-word ns ms top k T R lt lk =
 rebuilt-later : (ns ms : List NodeView) (top : ℕ) → IsTree ns → IsRebuilt ns ms top → top < length ns → ComeLater ms
 rebuilt-later ns ms top T R lt k s c lk e =
     let kn : k < length ns = omega (arith, lk, R.len) in
-    elim (zero_or (times ns top k)) [
+    elim (eq-zero-or-pos (times ns top k)) [
       | inl out ↦ let l : (k < c.0) × (c.0 < length ns) = T.linked.later k s c kn (sym (ap (part s) (R.other k kn out)) ∙ e) in (l.0, omega (arith, l.1, R.len))
       | inr has ↦
           let b = built-at ns ms top k T R lt has in
@@ -224,12 +221,6 @@ radius-is : (p : Point) (qs : List Point) (r : ℕ) → radius_over p qs ≡ Som
 radius-is p [] r e = absurd cc
 radius-is p (q ∷ qs) r e = cc
 
-near_by : (m n : ℕ) → nat_le m n ≡ true → m ≤ n
-near_by m n e = grind (arith, nat_tests)
-
-far_by : (m n : ℕ) → nat_lt n m ≡ true → n < m
-far_by m n e = grind (arith, nat_tests)
-
 -- a node below a node that is built is one of the points of a part
 below-built : (s : Side) (ns ms : List NodeView) (p : Point) (qs : List Point) (c : HashNo) (j : ℕ) (P : Point → Type 0) → ComeLater ms
     → length ms ≡ length ns → IsBranch ns ms (p ∷ qs) → first_number (side_part s p qs) ≡ Some c → 1 ≤ times ms c.0 j → All P (side_part s p qs)
@@ -249,7 +240,7 @@ rebuilt-near ns ms top T R lt k j r c lk lj er ec has =
     let kn : k < length ns = omega (arith, lk, R.len) in
     let jn : j < length ns = omega (arith, lj, R.len) in
     rw (rebuilt-word ns ms top j T R lt jn, rebuilt-word ns ms top k T R lt kn)
-    (elim (zero_or (times ns top k)) [
+    (elim (eq-zero-or-pos (times ns top k)) [
       | inl out ↦
           let node : node_at ms k ≡ node_at ns k = R.other k kn out in
           let child : (node_at ns k).inner ≡ Some c = sym (ap (λ v. v.inner) node) ∙ ec in
@@ -262,7 +253,7 @@ rebuilt-near ns ms top T R lt k j r c lk lj er ec has =
           (rebuilt-later ns ms top T R lt) R.len b.4 (sym (ap (λ v. v.inner) b.2) ∙ ec) has
           (filter_passes (λ q. nat_le (distance_of q.word b.0.word) (least_radius b.0 b.1)) b.1) in
           let radius : least_radius b.0 b.1 ≡ r = radius-is b.0 b.1 r (sym (ap (λ v. v.radius) b.2) ∙ er) in
-          let close : distance_of found.0.word b.0.word ≤ least_radius b.0 b.1 = near_by _ _ found.2.0 in
+          let close : distance_of found.0.word b.0.word ≤ least_radius b.0 b.1 = leb-true _ _ found.2.0 in
           let first : found.0.word ≡ (node_at ns j).word = found.2.1 ∙ ap (λ i. (node_at ns i).word) found.1 in
           let second : b.0.word ≡ (node_at ns k).word = (b.4.right 0 b.0 (omega arith)).1 ∙ ap (λ i. (node_at ns i).word) b.3 in
           rw (← first, ← second) (omega (arith, close, radius))
@@ -275,7 +266,7 @@ rebuilt-far ns ms top T R lt k j r c lk lj er ec has =
     let kn : k < length ns = omega (arith, lk, R.len) in
     let jn : j < length ns = omega (arith, lj, R.len) in
     rw (rebuilt-word ns ms top j T R lt jn, rebuilt-word ns ms top k T R lt kn)
-    (elim (zero_or (times ns top k)) [
+    (elim (eq-zero-or-pos (times ns top k)) [
       | inl out ↦
           let node : node_at ms k ≡ node_at ns k = R.other k kn out in
           let child : (node_at ns k).outer ≡ Some c = sym (ap (λ v. v.outer) node) ∙ ec in
@@ -288,7 +279,7 @@ rebuilt-far ns ms top T R lt k j r c lk lj er ec has =
           (rebuilt-later ns ms top T R lt) R.len b.4 (sym (ap (λ v. v.outer) b.2) ∙ ec) has
           (filter_passes (λ q. nat_lt (least_radius b.0 b.1) (distance_of q.word b.0.word)) b.1) in
           let radius : least_radius b.0 b.1 ≡ r = radius-is b.0 b.1 r (sym (ap (λ v. v.radius) b.2) ∙ er) in
-          let away : least_radius b.0 b.1 < distance_of found.0.word b.0.word = far_by _ _ found.2.0 in
+          let away : least_radius b.0 b.1 < distance_of found.0.word b.0.word = ltb-true _ _ found.2.0 in
           let first : found.0.word ≡ (node_at ns j).word = found.2.1 ∙ ap (λ i. (node_at ns i).word) found.1 in
           let second : b.0.word ≡ (node_at ns k).word = (b.4.right 0 b.0 (omega arith)).1 ∙ ap (λ i. (node_at ns i).word) b.3 in
           rw (← first, ← second) (omega (arith, away, radius))
@@ -303,7 +294,7 @@ rebuilt-bare : (ns ms : List NodeView) (top : ℕ) → IsTree ns → IsRebuilt n
     → (node_at ms k).radius ≡ None → part s (node_at ms k) ≡ None
 rebuilt-bare ns ms top T R lt k s lk none =
     let kn : k < length ns = omega (arith, lk, R.len) in
-    elim (zero_or (times ns top k)) [
+    elim (eq-zero-or-pos (times ns top k)) [
       | inl out ↦
           let node : node_at ms k ≡ node_at ns k = R.other k kn out in
           ap (part s) node ∙ T.cut.bare k s kn (sym (ap (λ v. v.radius) node) ∙ none)
@@ -316,7 +307,7 @@ rebuilt-below : (ns ms : List NodeView) (top : ℕ) → IsTree ns → IsRebuilt 
     → (node_at ms k).below + 1 ≡ size ms k
 rebuilt-below ns ms top T R lt k lk =
     let kn : k < length ns = omega (arith, lk, R.len) in
-    elim (zero_or (times ns top k)) [
+    elim (eq-zero-or-pos (times ns top k)) [
       | inl out ↦ omega (arith, ap (λ v. v.below) (R.other k kn out), T.below k kn, outside-total ns ms (λ _. 1) top k T R lt kn (inl out))
       | inr has ↦
           let b = built-at ns ms top k T R lt has in

@@ -5,6 +5,7 @@ use Rattle.std.proofs.Math.ListN.{set}
 use Rattle.std.proofs.lemmas.List.{get_or-set_same, get_or-set_other, length-set, take_all}
 use Rattle.std.proofs.lemmas.List.Elements.{All-append, All-cons, All-nil, All-more}
 use Rattle.std.proofs.lemmas.List.Sums.{sum_by-cons, sum_by-append, sum_by_more, sum_by_more_le}
+use Rattle.media_types.specs.declared.limits.TheConstants.{MAX_WORDS}
 use Rattle.media_types.specs.declared.numbers.HashNo.{HashNo}
 use Rattle.vp_tree.specs.declared.building.Point.{Point}
 use Rattle.vp_tree.specs.declared.node.NodeView.{NodeView}
@@ -31,7 +32,7 @@ built_all (suc f) Q P (p ∷ qs) le h q =
     (built_all f Q P (inner_part p qs) (omega (arith, le, inner-short p qs)) h (All-inner Q p qs rest))
     (built_all f Q P (outer_part p qs) (omega (arith, le, outer-short p qs)) h (All-outer Q p qs rest))))
 
-first-fits : (n : ℕ) (ps : List Point) → n ≤ 4000000 → All (λ p. p.number.0 < n) ps → ForSome (first_number ps) (λ c. c.0 < 0xffff_ffff)
+first-fits : (n : ℕ) (ps : List Point) → n ≤ MAX_WORDS → All (λ p. p.number.0 < n) ps → ForSome (first_number ps) (λ c. c.0 < 0xffff_ffff)
 first-fits n [] few h = λ c e. absurd cc
 first-fits n (p ∷ ps) few h =
     let first : p.number.0 < n = h 0 p (omega arith) in
@@ -46,7 +47,7 @@ radius-fits p (q ∷ qs) =
 abbrev pub IsPlaceable : ℕ → HashNo × NodeView → Type 0
 IsPlaceable n b = (b.0.0 < n) × IsStorable b.1
 
-placeable : (n : ℕ) (p : Point) (qs : List Point) → n ≤ 4000000 → All (λ q. q.number.0 < n) (p ∷ qs) → IsPlaceable n (p.number, built_node p qs)
+placeable : (n : ℕ) (p : Point) (qs : List Point) → n ≤ MAX_WORDS → All (λ q. q.number.0 < n) (p ∷ qs) → IsPlaceable n (p.number, built_node p qs)
 placeable n p qs few h =
     let rest : All (λ q. q.number.0 < n) qs = λ k d lt. h (suc k) d (omega (arith, lt)) in (
       h 0 p (omega arith),

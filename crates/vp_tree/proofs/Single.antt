@@ -1,5 +1,5 @@
 -- Where the root's branch has each node once, no node hangs in two places.
-use Rattle.std.proofs.Common.{◌≡◌, ◌≢◌, ◌∙◌, ℕ, zero, suc, ◌+◌, ◌<◌, ◌≤◌, List, length, Option, Some, None, refl, sym, ap, inl, inr, arith}
+use Rattle.std.proofs.Common.{◌≡◌, ◌≢◌, ◌∙◌, ℕ, zero, suc, ◌+◌, ◌<◌, ◌≤◌, List, length, Some, refl, sym, ap, inl, inr, arith}
 use Rattle.std.proofs.lemmas.Bool.Decides.{eqb_tells}
 use Rattle.media_types.specs.declared.numbers.HashNo.{HashNo}
 use Rattle.vp_tree.specs.declared.node.NodeView.{NodeView}
@@ -7,29 +7,25 @@ use Rattle.vp_tree.specs.Nodes.{node_at, at_part, one_at, total, times}
 use Rattle.vp_tree.specs.Shape.{Side, inward, outward, part, ComeLater}
 use Rattle.vp_tree.proofs.Branches.{total-step}
 use Rattle.vp_tree.proofs.Sorting.{one_at-other, one_at-same}
-use Rattle.vp_tree.proofs.Times.{total-add, total-le}
+use Rattle.vp_tree.proofs.Times.{total-add, total-le, at_part-add}
 
 -- on how many sides of a node a number hangs
 abbrev hangs : List NodeView → ℕ → ℕ → ℕ
 hangs ns c k = at_part (node_at ns k).inner (one_at c) + at_part (node_at ns k).outer (one_at c)
-
-at_part-both : (o : Option HashNo) (H F G : ℕ → ℕ) → ((c : HashNo) → o ≡ Some c → F c.0 + G c.0 ≡ H c.0) → at_part o F + at_part o G ≡ at_part o H
-at_part-both None H F G h = refl
-at_part-both (Some c) H F G h = h c refl
 
 -- a branch has a number as often as it hangs at its nodes, and once more where it is the first
 hangs-total : (m : ℕ) (ns : List NodeView) (c k : ℕ) → ComeLater ns → k < length ns → length ns ≤ m + k
     → total ns (hangs ns c) k + one_at c k ≡ times ns k c
 hangs-total zero ns c k L lt q = absurd (omega (arith, lt, q))
 hangs-total (suc m) ns c k L lt q =
-    let child : (s : Side) (d : HashNo) → part s (node_at ns k) ≡ Some d → total ns (hangs ns c) d.0 + one_at c d.0 ≡ times ns d.0 c =
-    λ s d e. let l : (k < d.0) × (d.0 < length ns) = L k s d lt e in hangs-total m ns c d.0 L l.1 (omega (arith, l.0, q)) in
+    let child : (s : Side) (d : HashNo) → part s (node_at ns k) ≡ Some d → times ns d.0 c ≡ total ns (hangs ns c) d.0 + one_at c d.0 =
+    λ s d e. let l : (k < d.0) × (d.0 < length ns) = L k s d lt e in sym (hangs-total m ns c d.0 L l.1 (omega (arith, l.0, q))) in
     omega (
       arith,
       total-step ns (hangs ns c) k L lt,
       total-step ns (one_at c) k L lt,
-      at_part-both (node_at ns k).inner (total ns (one_at c)) (total ns (hangs ns c)) (one_at c) (child inward),
-      at_part-both (node_at ns k).outer (total ns (one_at c)) (total ns (hangs ns c)) (one_at c) (child outward),
+      at_part-add (node_at ns k).inner (total ns (one_at c)) (total ns (hangs ns c)) (one_at c) (child inward),
+      at_part-add (node_at ns k).outer (total ns (one_at c)) (total ns (hangs ns c)) (one_at c) (child outward),
     )
 
 hangs-here : (s : Side) (ns : List NodeView) (c : HashNo) (k : ℕ) → part s (node_at ns k) ≡ Some c → 1 ≤ hangs ns c.0 k

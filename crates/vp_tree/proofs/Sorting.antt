@@ -2,7 +2,8 @@
 use Rattle.std.proofs.Common.{◌≡◌, ◌≢◌, ◌∙◌, ℕ, zero, suc, ◌+◌, ◌<◌, ◌≤◌, nat_le, Bool, true, false, cond, List, [], ◌∷◌, length, map, filter, sum_by, All, get_or, refl, sym, ap, inl, inr, arith}
 use Rattle.std.specs.List.{range_with_len}
 use Rattle.std.specs.List.Sorted.{IsNonDecreasingBy, IsPermutation}
-use Rattle.std.proofs.lemmas.Bool.Decides.{nat_tests, eqb_tells}
+use Rattle.std.proofs.lemmas.Bool.{both_ways, le-leb, leb-true}
+use Rattle.std.proofs.lemmas.Bool.Decides.{eqb_tells}
 use Rattle.std.proofs.lemmas.List.Sorted.{All-permutation, sum_by-IsPermutation}
 use Rattle.std.proofs.lemmas.List.Sums.{sum_by-cons}
 use Rattle.media_types.specs.declared.hash.Hash64.{Hash64}
@@ -79,9 +80,6 @@ later-all number make want a end xs right apart k d lt =
     let ne : number (get_or xs k d) ≢ a = apart k d lt in
     (omega (arith, r.0, ne), r.1, r.2, r.3)
 
-true_false : (b : Bool) → b ≡ true → b ≡ false → ⊥
-true_false b p q = cc
-
 sorted_if : {X : Type 0} (b : Bool) (number : X → ℕ) (make : ℕ → X) (want : ℕ → Bool) (m a end : ℕ) (xs : List X) → end ≡ a + suc m
     → ((k : ℕ) → number (make k) ≡ k) → All (IsFound number make want a end) xs → IsNonDecreasingBy number xs
     → ((j : ℕ) → a ≤ j → j < end → want j ≡ true → found_times number j xs ≡ 1) → want a ≡ b
@@ -106,7 +104,7 @@ sorted_if false number make want m a end xs e made right up each wanted more =
     more xs
     (later-all number make want a end xs right
     (λ k d lt. λ same. let r : IsFound number make want a end (get_or xs k d) = right k d lt in
-    true_false (want a) (ap want (sym same) ∙ r.3) wanted))
+    both_ways (want a) wanted (ap want (sym same) ∙ r.3)))
     up
     (λ j le jn wj. each j (omega (arith, le)) jn wj)
 
@@ -123,7 +121,7 @@ sorted_from number make want (suc m) a end xs e made right up each =
     (λ ys right' up' each'. let next : suc a ≡ a + 1 = omega arith in
     rw (← next) (sorted_from number make want m (suc a) end ys (omega (arith, e)) made right' up' each'))
 
-pub map-if : {X Y : Type 0} (f : X → Y) (b : Bool) (xs ys : List X) → map f (cond b xs ys) ≡ cond b (map f xs) (map f ys)
+map-if : {X Y : Type 0} (f : X → Y) (b : Bool) (xs ys : List X) → map f (cond b xs ys) ≡ cond b (map f xs) (map f ys)
 map-if f true xs ys = refl
 map-if f false xs ys = refl
 
@@ -132,19 +130,13 @@ filter-map f p [] = refl
 filter-map f p (x ∷ xs) =
     map-if f (p (f x)) (x ∷ filter (λ y. p (f y)) xs) (filter (λ y. p (f y)) xs) ∙ ap (λ ys. cond (p (f x)) (f x ∷ ys) ys) (filter-map f p xs)
 
-near_found : (n w : ℕ) → nat_le n w ≡ true → n ≤ w
-near_found n w e = grind (arith, nat_tests)
-
-found_near : (n w : ℕ) → n ≤ w → nat_le n w ≡ true
-found_near n w h = grind (arith, nat_tests)
-
 -- what was found at the end of a search, sorted
 pub sorted-found : (ns : List NodeView) (q : Hash64) (w : ℕ) (hits sorted : List (HashNo × ℕ)) → IsSearching ns q w hits []
     → IsPermutation hits sorted → IsNonDecreasingBy (λ (h : HashNo × ℕ). h.0.0) sorted → sorted ≡ filter_of ns q w
 sorted-found ns q w hits sorted h moved up =
     sorted_from (λ (h : HashNo × ℕ). h.0.0) (hit ns q) (λ k. nat_le (hit ns q k).1 w) (length ns) 0 (length ns) sorted (omega arith) (λ k. refl)
     (λ k d lt. let r : (((get_or sorted k d).0.0 < length ns) × (get_or sorted k d ≡ hit ns q (get_or sorted k d).0.0) × ((get_or sorted k d).1 ≤ w)) = All-permutation (λ g. (g.0.0 < length ns) × (g ≡ hit ns q g.0.0) × (g.1 ≤ w)) hits sorted moved h.right k d lt in
-    (omega arith, r.0, r.1, found_near (hit ns q (get_or sorted k d).0.0).1 w (let same : (get_or sorted k d).1 ≡ (hit ns q (get_or sorted k d).0.0).1 = ap (λ g. g.1) r.1 in omega (arith, same, r.2))))
+    (omega arith, r.0, r.1, le-leb (hit ns q (get_or sorted k d).0.0).1 w (let same : (get_or sorted k d).1 ≡ (hit ns q (get_or sorted k d).0.0).1 = ap (λ g. g.1) r.1 in omega (arith, same, r.2))))
     up
-    (λ j le jn near. omega (arith, h.each j jn (near_found (hit ns q j).1 w near), sum_by-IsPermutation (λ g. one_at j g.0.0) hits sorted moved))
+    (λ j le jn near. omega (arith, h.each j jn (leb-true (hit ns q j).1 w near), sum_by-IsPermutation (λ g. one_at j g.0.0) hits sorted moved))
     ∙ filter-map (hit ns q) (λ h. nat_le h.1 w) (range_with_len 0 (length ns))

@@ -7,11 +7,11 @@ use Rattle.media_types.specs.declared.numbers.HashNo.{HashNo}
 use Rattle.vp_tree.specs.declared.node.NodeView.{NodeView}
 use Rattle.vp_tree.specs.Nodes.{node_at, at_part, total_in, total, one_at, times}
 use Rattle.vp_tree.specs.Shape.{Side, inward, outward, part, ComeLater, IsTree}
-use Rattle.vp_tree.proofs.Branches.{at_part-same, at_part-none, total-step}
+use Rattle.vp_tree.proofs.Branches.{at_part-same, at_part-none, total-step, none_if}
 use Rattle.vp_tree.proofs.Sorting.{one_at-other, one_at-same}
 
 -- a sum over a branch of what is 0 from some number on
-total_in-none : (f : ℕ) (ns : List NodeView) (g : ℕ → ℕ) (a k : ℕ) → ComeLater ns → ((i : ℕ) → a ≤ i → i < length ns → g i ≡ 0)
+pub total_in-none : (f : ℕ) (ns : List NodeView) (g : ℕ → ℕ) (a k : ℕ) → ComeLater ns → ((i : ℕ) → a ≤ i → i < length ns → g i ≡ 0)
     → a ≤ k → k < length ns → total_in f ns g k ≡ 0
 total_in-none zero ns g a k L h le lt = refl
 total_in-none (suc f) ns g a k L h le lt =
@@ -38,17 +38,17 @@ total_in-equal (suc f) ns g h k L e lt =
       at_part-same (node_at ns k).outer (total_in f ns g) (total_in f ns h) (λ c at. total_in-equal f ns g h c.0 L e (L k outward c lt at).1),
     )
 
-at_part-add : (o : Option HashNo) (H F G : ℕ → ℕ) → ((c : HashNo) → H c.0 ≡ F c.0 + G c.0) → at_part o H ≡ at_part o F + at_part o G
+pub at_part-add : (o : Option HashNo) (H F G : ℕ → ℕ) → ((c : HashNo) → o ≡ Some c → H c.0 ≡ F c.0 + G c.0) → at_part o H ≡ at_part o F + at_part o G
 at_part-add None H F G e = refl
-at_part-add (Some c) H F G e = e c
+at_part-add (Some c) H F G e = e c refl
 
 total_in-add : (f : ℕ) (ns : List NodeView) (g h : ℕ → ℕ) (k : ℕ) → total_in f ns (λ i. g i + h i) k ≡ total_in f ns g k + total_in f ns h k
 total_in-add zero ns g h k = refl
 total_in-add (suc f) ns g h k =
     omega (
       arith,
-      at_part-add (node_at ns k).inner (total_in f ns (λ i. g i + h i)) (total_in f ns g) (total_in f ns h) (λ c. total_in-add f ns g h c.0),
-      at_part-add (node_at ns k).outer (total_in f ns (λ i. g i + h i)) (total_in f ns g) (total_in f ns h) (λ c. total_in-add f ns g h c.0),
+      at_part-add (node_at ns k).inner (total_in f ns (λ i. g i + h i)) (total_in f ns g) (total_in f ns h) (λ c _. total_in-add f ns g h c.0),
+      at_part-add (node_at ns k).outer (total_in f ns (λ i. g i + h i)) (total_in f ns g) (total_in f ns h) (λ c _. total_in-add f ns g h c.0),
     )
 
 pub total-add : (ns : List NodeView) (g h : ℕ → ℕ) (k : ℕ) → total ns (λ i. g i + h i) k ≡ total ns g k + total ns h k
@@ -153,10 +153,6 @@ has_parent (suc m) ns k c L lt q ne has =
 pub has-parent : (ns : List NodeView) (k : ℕ) (c : HashNo) → ComeLater ns → k < length ns → k ≢ c.0 → 1 ≤ times ns k c.0
     → (p : ℕ) × (s : Side) × (p < length ns) × (1 ≤ times ns k p) × (part s (node_at ns p) ≡ Some c)
 has-parent ns k c L lt ne has = has_parent (length ns) ns k c L lt (omega arith) ne has
-
-none_if : (n : ℕ) → (1 ≤ n → ⊥) → n ≡ 0
-none_if zero h = refl
-none_if (suc n) h = absurd (h (omega arith))
 
 -- a child of a node outside of a branch lies outside, or is the first of the branch
 pub child-outside : (ns : List NodeView) (top k : ℕ) (s : Side) (c : HashNo) → IsTree ns → top < length ns → k < length ns → times ns top k ≡ 0

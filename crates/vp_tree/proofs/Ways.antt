@@ -1,7 +1,9 @@
 -- The nodes to which a word leads.
-use Rattle.std.proofs.Common.{◌≡◌, ◌≢◌, ◌∙◌, ℕ, zero, suc, ◌+◌, ◌<◌, ◌≤◌, ◌==◌, ◌||◌, Bool, true, false, cond, List, [], ◌∷◌, length, Option, Some, None, refl, sym, ap, inl, inr, arith}
+use Rattle.std.proofs.Common.{◌≡◌, ◌≢◌, ◌∙◌, ℕ, zero, suc, ◌+◌, ◌<◌, ◌≤◌, ◌==◌, Bool, true, false, cond, List, [], ◌∷◌, length, Option, Some, None, refl, sym, ap, inl, inr, arith}
 use Rattle.std.specs.Option.{option_map_or}
+use Rattle.std.proofs.lemmas.Bool.{or_right}
 use Rattle.std.proofs.lemmas.Bool.Decides.{eqb_tells}
+use Rattle.std.proofs.lemmas.Option.{none-some}
 use Rattle.media_types.specs.declared.hash.Hash64.{Hash64}
 use Rattle.media_types.specs.declared.numbers.HashNo.{HashNo}
 use Rattle.vp_tree.specs.declared.node.NodeView.{NodeView}
@@ -17,7 +19,7 @@ next_if-there : (b : Bool) (node : NodeView) (c : HashNo) → cond b node.inner 
 next_if-there true node c e = (inward, e)
 next_if-there false node c e = (outward, e)
 
-next_from-there : (o : Option ℕ) (node : NodeView) (w : Hash64) (c : HashNo)
+pub next_from-there : (o : Option ℕ) (node : NodeView) (w : Hash64) (c : HashNo)
     → option_map_or (λ r. cond (is_within node r w) node.inner node.outer) o None ≡ Some c → (s : Side) × (part s node ≡ Some c)
 next_from-there None node w c e = absurd cc
 next_from-there (Some r) node w c e = next_if-there (is_within node r w) node c e
@@ -68,10 +70,6 @@ on_by_rest : (o : Option HashNo) (F : ℕ → List ℕ) (i : ℕ) (c : HashNo) �
     → is_on (option_map_or (λ c. F c.0) o []) i ≡ true
 on_by_rest o F i c e h = rw e h
 
-or_true : (b c : Bool) → c ≡ true → (b || c) ≡ true
-or_true true c e = refl
-or_true false c e = e
-
 -- a way from a node leads to later nodes alone
 pub way_in-after : (f : ℕ) (ns : List NodeView) (w : Hash64) (k i : ℕ) → ComeLater ns → k < length ns
     → is_on (way_in f ns w k) i ≡ true → (k ≤ i) × (i < length ns)
@@ -99,7 +97,7 @@ way_in-parent (suc f) ns w a c ne e =
       | inr other ↦
           let above : (p : ℕ) × (is_on (way_in f ns w rest.0.0) p ≡ true) × (next_of (node_at ns p) w ≡ Some (record { 0 = c })) =
           way_in-parent f ns w rest.0.0 c other.1 rest.2 in
-          (above.0, or_true (a == above.0) _ (on_by_rest (next_of (node_at ns a) w) (way_in f ns w) above.0 rest.0 rest.1 above.1), above.2)
+          (above.0, or_right (a == above.0) _ (on_by_rest (next_of (node_at ns a) w) (way_in f ns w) above.0 rest.0 rest.1 above.1), above.2)
     ]
 
 pub way_in-first : (f : ℕ) (ns : List NodeView) (w : Hash64) (k : ℕ) → 0 < f → is_on (way_in f ns w k) k ≡ true
@@ -115,12 +113,12 @@ way_in-child (suc f) ns w a p c L lt q e next =
       | inl same ↦
           let from : next_of (node_at ns a) w ≡ Some c = ap (λ i. next_of (node_at ns i) w) same.1 ∙ next in
           let l : (a < c.0) × (c.0 < length ns) = next-later ns w a c L lt from in
-          or_true (a == c.0) _ (on_by_rest (next_of (node_at ns a) w) (way_in f ns w) c.0 c from (way_in-first f ns w c.0 (omega (arith, l.0, l.1, q))))
+          or_right (a == c.0) _ (on_by_rest (next_of (node_at ns a) w) (way_in f ns w) c.0 c from (way_in-first f ns w c.0 (omega (arith, l.0, l.1, q))))
       | inr other ↦
           let rest : (d : HashNo) × (next_of (node_at ns a) w ≡ Some d) × (is_on (way_in f ns w d.0) p ≡ true) =
           rest-on (next_of (node_at ns a) w) (way_in f ns w) p (sym (on_rest a p _ other.1) ∙ e) in
           let l : (a < rest.0.0) × (rest.0.0 < length ns) = next-later ns w a rest.0 L lt rest.1 in
-          or_true (a == c.0) _ (on_by_rest (next_of (node_at ns a) w) (way_in f ns w) c.0 rest.0 rest.1
+          or_right (a == c.0) _ (on_by_rest (next_of (node_at ns a) w) (way_in f ns w) c.0 rest.0 rest.1
           (way_in-child f ns w rest.0.0 p c L l.1 (omega (arith, l.0, q)) rest.2 next))
     ]
 
@@ -129,9 +127,6 @@ both-rest : (o : Option HashNo) (F : ℕ → List ℕ) (i k : ℕ) → is_on (op
     → ((c : HashNo) → o ≡ Some c → is_on (F c.0) i ≡ true → is_on (F c.0) k ≡ true → i ≡ k) → i ≡ k
 both-rest None F i k p q h = absurd cc
 both-rest (Some c) F i k p q h = h c refl p q
-
-some_none : (c : HashNo) → Some c ≡ None → ⊥
-some_none c e = cc
 
 -- a way has one end
 pub way_in-end : (f : ℕ) (ns : List NodeView) (w : Hash64) (a i k : ℕ)
@@ -145,13 +140,13 @@ way_in-end (suc f) ns w a i k p q ei ek =
         | inr other ↦
             let rest : (d : HashNo) × (next_of (node_at ns a) w ≡ Some d) × (is_on (way_in f ns w d.0) k ≡ true) =
             rest-on (next_of (node_at ns a) w) (way_in f ns w) k (sym (on_rest a k _ other.1) ∙ q) in
-            absurd (some_none rest.0 (sym rest.1 ∙ ap (λ j. next_of (node_at ns j) w) same.1 ∙ ei))
+            absurd (none-some rest.0 (sym ei ∙ ap (λ j. next_of (node_at ns j) w) (sym same.1) ∙ rest.1))
       ]
       | inr apart ↦ elim (eqb_tells a k) [
         | inl also ↦
             let rest : (d : HashNo) × (next_of (node_at ns a) w ≡ Some d) × (is_on (way_in f ns w d.0) i ≡ true) =
             rest-on (next_of (node_at ns a) w) (way_in f ns w) i (sym (on_rest a i _ apart.1) ∙ p) in
-            absurd (some_none rest.0 (sym rest.1 ∙ ap (λ j. next_of (node_at ns j) w) also.1 ∙ ek))
+            absurd (none-some rest.0 (sym ek ∙ ap (λ j. next_of (node_at ns j) w) (sym also.1) ∙ rest.1))
         | inr other ↦
             both-rest (next_of (node_at ns a) w) (way_in f ns w) i k (sym (on_rest a i _ apart.1) ∙ p) (sym (on_rest a k _ other.1) ∙ q)
             (λ c e r s. way_in-end f ns w c.0 i k r s ei ek)

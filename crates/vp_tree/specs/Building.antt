@@ -93,3 +93,7 @@ pub record IsRebuilt (old new : List NodeView) (top : ℕ) : Type 0 where
   pub len : length new ≡ length old
   pub built : All (λ b. node_at new b.0.0 ≡ b.1) (built_of (points old top))
   pub other : (k : ℕ) → k < length old → times old top k ≡ 0 → node_at new k ≡ node_at old k
+
+-- the tree is the one that building makes of all its points
+pub record IsBuiltWhole (ns : List NodeView) : Type 0 where
+  pub built : All (λ b. node_at ns b.0.0 ≡ b.1) (built_of (map (point_at ns) (range_with_len 0 (length ns))))

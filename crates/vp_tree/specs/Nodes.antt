@@ -1,5 +1,5 @@
 -- The nodes of a metric tree, in a list by number. Each is a word, and a point of the tree.
-use Rattle.std.specs.Prelude.{ℕ, zero, suc, ◌+◌, ◌==◌, if◌then◌else◌, List, length, Option, None, slice_index_or}
+use Rattle.std.specs.Prelude.{ℕ, zero, suc, ◌+◌, ◌==◌, if◌then◌else◌, List, length, map, Option, None, slice_index_or}
 use Rattle.std.specs.Option.{option_map_or}
 use Rattle.media_types.specs.declared.hash.Hash64.{Hash64}
 use Rattle.media_types.specs.declared.numbers.HashNo.{HashNo}
@@ -11,6 +11,10 @@ leaf w = record { word = w; radius = None; inner = None; outer = None; below = 0
 
 abbrev pub node_at : List NodeView → ℕ → NodeView
 node_at ns k = slice_index_or ns k (leaf (record { 0 = 0 }))
+
+-- the words of the nodes, by number
+abbrev pub words_in : List NodeView → List Hash64
+words_in ns = map (λ node. node.word) ns
 
 -- what a number is at the first node of a part; 0 where the part is empty
 abbrev pub at_part : Option HashNo → (ℕ → ℕ) → ℕ

@@ -5,6 +5,7 @@ use Rattle.std.specs.List.{list_any}
 use Rattle.spare_tables.specs.Table.{Table}
 use Rattle.media_types.specs.Distance.{distance_of}
 use Rattle.media_types.specs.declared.hash.Hash64.{Hash64}
+use Rattle.media_types.specs.declared.limits.TheConstants.{MAX_WORDS}
 use Rattle.media_types.specs.declared.numbers.HashNo.{HashNo}
 use Rattle.vp_tree.specs.declared.node.NodeView.{NodeView}
 use Rattle.vp_tree.specs.Nodes.{leaf, node_at}
@@ -46,7 +47,7 @@ grown number word node =
 -- there is room for one more node, and the word isn't there
 pub record CanTake (tree : Table NodeView) (word : Hash64) : Type 0 where
   pub room : 1 ≤ tree.spare
-  pub few : length tree.rows < 4000000
+  pub few : length tree.rows < MAX_WORDS
   pub other : All (λ node. node.word ≢ word) tree.rows
 
 -- a word is placed: each node on its way has one more below it, and the new point comes last
@@ -55,3 +56,8 @@ pub record IsPlaced (old new : List NodeView) (word : Hash64) : Type 0 where
   pub each : (k : ℕ) → k < length old
       → node_at new k ≡ (if is_on (way old word) k then grown (record { 0 = length old }) word (node_at old k) else node_at old k)
   pub last : node_at new (length old) ≡ leaf word
+
+-- words are placed, one after the other
+abbrev pub ArePlaced : List NodeView → List Hash64 → List NodeView → Type 0
+ArePlaced old [] new = new ≡ old
+ArePlaced old (word ∷ words) new = (next : List NodeView) × IsPlaced old next word × ArePlaced next words new

@@ -1,6 +1,7 @@
 -- What makes a list of nodes a metric tree.
 use Rattle.std.specs.Prelude.{◌≡◌, ◌<◌, ◌≤◌, ◌+◌, ℕ, List, length, Option, Some, None}
 use Rattle.media_types.specs.Distance.{distance_of}
+use Rattle.media_types.specs.declared.limits.TheConstants.{MAX_WORDS}
 use Rattle.media_types.specs.declared.numbers.HashNo.{HashNo}
 use Rattle.vp_tree.specs.declared.node.NodeView.{NodeView}
 use Rattle.vp_tree.specs.Nodes.{node_at, times, size}
@@ -38,9 +39,9 @@ pub record IsWellCut (ns : List NodeView) : Type 0 where
       → r < distance_of (node_at ns j).word (node_at ns k).word
   pub bare : (k : ℕ) (side : Side) → k < length ns → (node_at ns k).radius ≡ None → part side (node_at ns k) ≡ None
 
--- there are at most 4,000,000 nodes, the words are distinct, and each node knows how many are under it
+-- there are no more nodes than a library has words, the words are distinct, and each node knows how many are under it
 pub record IsTree (ns : List NodeView) : Type 0 where
-  pub few : length ns ≤ 4000000
+  pub few : length ns ≤ MAX_WORDS
   pub linked : IsLinked ns
   pub cut : IsWellCut ns
   pub words : (i k : ℕ) → i < length ns → k < length ns → (node_at ns i).word ≡ (node_at ns k).word → i ≡ k

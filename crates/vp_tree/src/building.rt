@@ -1,5 +1,6 @@
 ghost use Rattle.std.specs.Prelude.{ℕ, ◌≡◌, ◌==◌, ◌<◌, ◌≤◌, ◌++◌, map, length, IfOk, OnOk, count_by, slice_index};
 ghost use Rattle.media_types.specs.Distance.{distance_of};
+ghost use Rattle.media_types.specs.declared.limits.TheConstants.{MAX_WORDS};
 ghost use Rattle.vp_tree.specs.Building.{points_within, points_beyond, least_radius, radius_over, first_number, built_of, first_built, left_parts};
 
 use crate::node::NodeView;
@@ -15,7 +16,7 @@ pub struct Point {
 
 /// How many points lie at each distance from a point.
 fn count_distances(point: Point, others: &[Point]) -> [u32; 65]
-    requires { length others.now ≤ 4000000 }
+    requires { length others.now ≤ MAX_WORDS }
     ensures { (d : ℕ) → d < 65
         → slice_index result d ≡ count_by (λ q. distance_of q.word point.word == d) others.now }
 {
@@ -28,7 +29,7 @@ fn count_distances(point: Point, others: &[Point]) -> [u32; 65]
 
 /// The least radius within which at least half of the others lie.
 fn find_radius(point: Point, others: &[Point]) -> u8
-    requires { length others.now ≤ 4000000 }
+    requires { length others.now ≤ MAX_WORDS }
     ensures least { result ≡ least_radius point others.now }
     ensures at_most { result ≤ 64 }
 {
@@ -93,7 +94,7 @@ fn build_first(
     nodes: &mut Vec<(HashNo, NodeView)>,
     stack: &mut Vec<Vec<Point>>,
 ) -> Result<(), NoMemory>
-    requires { length points.now ≤ 4000000 }
+    requires { length points.now ≤ MAX_WORDS }
     ensures nodes { OnOk result (nodes.new.items ≡ nodes.old.items ++ first_built points.now) }
     ensures stack { OnOk result (map (λ v. v.items) stack.new.items
         ≡ map (λ v. v.items) stack.old.items ++ left_parts points.now) }
@@ -123,7 +124,7 @@ fn build_first(
 ///
 /// The parts that are left stand on a stack of their own, since a tree may be as deep as it has nodes.
 pub fn build_nodes(alloc: Global, points: Vec<Point>) -> Result<Vec<(HashNo, NodeView)>, NoMemory>
-    requires { length points.items ≤ 4000000 }
+    requires { length points.items ≤ MAX_WORDS }
     ensures { IfOk result (λ nodes. nodes.items ≡ built_of points.items) }
 {
     let mut nodes = Vec::with_capacity(alloc, points.len())?;

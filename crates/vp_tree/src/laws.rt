@@ -1,9 +1,10 @@
-ghost use Rattle.std.specs.Prelude.{◌≡◌, ◌↔◌, ◌+◌, ◌≤◌, List, length, map};
+ghost use Rattle.std.specs.Prelude.{◌≡◌, ◌↔◌, ◌+◌, ◌≤◌, List, [], ◌∷◌, ◌++◌, length, map};
 ghost use Rattle.std.specs.List.{range_with_len};
 ghost use Rattle.media_types.specs.declared.hash.Hash64.{Hash64};
 ghost use Rattle.media_types.specs.Distance.{distance_of};
 ghost use Rattle.vp_tree.specs.declared.node.NodeView.{NodeView};
 ghost use Rattle.vp_tree.specs.Building.{point_at, points};
+ghost use Rattle.vp_tree.specs.Placing.{ArePlaced, IsPlaced};
 ghost use Rattle.vp_tree.specs.Shape.{IsTree};
 
 /// The distance of two words is a metric. The call does nothing.
@@ -16,4 +17,11 @@ pub fn distance_laws()
 /// The branch at the root has all points, so that building it builds the whole tree. The call does nothing.
 pub fn root_law()
     ensures { (ns : List NodeView) → IsTree ns → points ns 0 ≡ map (point_at ns) (range_with_len 0 (length ns)) }
+{}
+
+/// Placing words one after the other, told from the last one. The call does nothing.
+pub fn placing_laws()
+    ensures none { (ns : List NodeView) → ArePlaced ns [] ns }
+    ensures one_more { (old next new : List NodeView) (words : List Hash64) (word : Hash64)
+        → ArePlaced old words next → IsPlaced next new word → ArePlaced old (words ++ word ∷ []) new }
 {}

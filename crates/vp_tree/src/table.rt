@@ -78,14 +78,14 @@ impl NodeTable {
         &self.nodes[at.0 as usize]
     }
 
-    /// Makes room for one more node.
-    pub fn reserve_one(&mut self) -> Result<(), NoMemory>
+    /// Makes room for so many more nodes.
+    pub fn reserve(&mut self, n: usize) -> Result<(), NoMemory>
         ensures rows { self.new.rows ≡ self.old.rows }
-        ensures ok { OnOk result (1 ≤ self.new.spare) }
+        ensures ok { OnOk result (n ≤ self.new.spare) }
         ensures spare { self.old.spare ≤ self.new.spare }
     {
-        self.nodes.reserve(1)?;
-        self.counts.reserve(1)?;
+        self.nodes.reserve(n)?;
+        self.counts.reserve(n)?;
         Ok(())
     }
 

@@ -1,7 +1,9 @@
-ghost use Rattle.std.specs.Prelude.{◌≡◌, ◌≢◌, ◌<◌, All, length};
+ghost use Rattle.std.specs.Prelude.{◌≡◌, ◌≢◌, ◌+◌, ◌<◌, ◌≤◌, All, length, IfOk, OnOk};
+ghost use Rattle.media_types.specs.declared.limits.TheConstants.{MAX_HASHES};
+ghost use Rattle.vp_tree.specs.Placing.{CanTake};
 
 use super::*;
-use media_types::{Hash64, HashNo, NoMemory, Steps, distance};
+use media_types::{Hash64, HashNo, MAX_WORDS, NoMemory, Steps, distance};
 use std::alloc::Global;
 use std::marker::Brand;
 use std::process::Abort;
@@ -18,18 +20,72 @@ fn assert_new(rt: &impl Abort, tree: &Tree, word: Hash64)
     }
 }
 
+fn plan_word(rt: &impl Abort, tree: &mut Tree, word: Hash64) -> Result<InsertPlan, NoMemory>
+    ensures plan { IfOk result (λ plan. plan.word ≡ word) }
+    ensures ready { OnOk result (CanTake tree.new word) }
+    ensures room { OnOk result (MAX_HASHES ≤ tree.new.spare) }
+{
+    assert!(rt; tree.len() < MAX_WORDS);
+    assert_new(rt, tree, word);
+    tree.plan_insert(word)
+}
+
+fn place<L: Ledger>(
+    rt: &impl Abort,
+    tree: &mut Tree,
+    plan: InsertPlan,
+    steps: &mut Steps<L>,
+) -> HashNo
+    requires { CanTake tree.old plan.word }
+    ensures { tree.old.spare ≤ tree.new.spare + 1 }
+{
+    let (number, branch) = tree.commit_insert(plan, steps);
+    assert!(rt; branch.is_none());
+    number
+}
+
 fn insert<L: Ledger>(
     rt: &impl Abort,
     tree: &mut Tree,
     word: Hash64,
     steps: &mut Steps<L>,
 ) -> Result<HashNo, NoMemory> {
-    assert!(rt; tree.len() < 4_000_000);
-    assert_new(rt, tree, word);
-    let plan = tree.plan_insert(word)?;
-    let (number, branch) = tree.commit_insert(plan, steps);
-    assert!(rt; branch.is_none());
-    Ok(number)
+    let plan = plan_word(rt, tree, word)?;
+    Ok(place(rt, tree, plan, steps))
+}
+
+// The plan's room is still there, though other words were placed since.
+fn place_later<L: Ledger>(
+    rt: &impl Abort,
+    tree: &mut Tree,
+    plan: InsertPlan,
+    number: u32,
+    steps: &mut Steps<L>,
+)
+    requires { 1 ≤ tree.old.spare }
+    ensures { tree.old.spare ≤ tree.new.spare + 1 }
+{
+    assert!(rt; tree.len() < MAX_WORDS);
+    assert_new(rt, tree, plan.word);
+    assert_eq!(rt; place(rt, tree, plan, steps), HashNo(number));
+}
+
+// The words of a file are all planned before the first is placed. The second differs from the first
+// in 8 bits, the third in 9, the fourth in 64.
+fn insert_four<L: Ledger>(
+    rt: &impl Abort,
+    tree: &mut Tree,
+    steps: &mut Steps<L>,
+) -> Result<(), NoMemory> {
+    let first = plan_word(rt, tree, Hash64(0))?;
+    let second = plan_word(rt, tree, Hash64(0xff))?;
+    let third = plan_word(rt, tree, Hash64(0x1ff))?;
+    let fourth = plan_word(rt, tree, Hash64(u64::MAX))?;
+    place_later(rt, tree, first, 0, steps);
+    place_later(rt, tree, second, 1, steps);
+    place_later(rt, tree, third, 2, steps);
+    place_later(rt, tree, fourth, 3, steps);
+    Ok(())
 }
 
 fn build<L: Ledger>(
@@ -114,6 +170,83 @@ fn three_words(rt: HostRuntime) -> Result<(), Fail> {
     three_words_in::<Brand>(&rt, rt.alloc(), Blank::new(1))?;
     distance_laws();
     root_law();
+    placing_laws();
+    Ok(())
+}
+
+fn four_words_in<L: Ledger>(
+    rt: &(impl Abort + Threads),
+    alloc: Global,
+    blank: Blank,
+) -> Result<(), NoMemory>
+    requires name { blank.name ≡ L.name }
+    requires parts { blank.parts ≡ L.parts }
+    requires some { 0 < L.parts }
+{
+    let mut steps = Steps::<L>::new(rt, blank);
+    let mut tree = Tree::new(alloc);
+    insert_four(rt, &mut tree, &mut steps)?;
+    let all = [
+        (HashNo(0), 0),
+        (HashNo(1), 8),
+        (HashNo(2), 9),
+        (HashNo(3), 64),
+    ];
+    assert_hits(rt, &tree, 64, &all, &mut steps)
+}
+
+#[test]
+fn four_words_of_a_file(rt: HostRuntime) -> Result<(), Fail> {
+    four_words_in::<Brand>(&rt, rt.alloc(), Blank::new(1))?;
+    Ok(())
+}
+
+fn assert_leaf(rt: &impl Abort, tree: &Tree, at: u32, word: Hash64) {
+    assert!(rt; at < tree.len());
+    let leaf = NodeView {
+        word,
+        radius: None,
+        inner: None,
+        outer: None,
+        below: 0,
+        built: 0,
+    };
+    assert_eq!(rt; tree.node(HashNo(at)), leaf);
+}
+
+fn built_root_in<L: Ledger>(
+    rt: &(impl Abort + Threads),
+    alloc: Global,
+    blank: Blank,
+) -> Result<(), NoMemory>
+    requires name { blank.name ≡ L.name }
+    requires parts { blank.parts ≡ L.parts }
+    requires some { 0 < L.parts }
+{
+    let mut steps = Steps::<L>::new(rt, blank);
+    let mut tree = Tree::new(alloc);
+    for word in [0, 0xff, 0x1ff] {
+        insert(rt, &mut tree, Hash64(word), &mut steps)?;
+    }
+    build(rt, &mut tree, HashNo(0), &mut steps)?;
+    assert!(rt; tree.len() == 3);
+    let root = NodeView {
+        word: Hash64(0),
+        radius: Some(8),
+        inner: Some(HashNo(1)),
+        outer: Some(HashNo(2)),
+        below: 2,
+        built: 2,
+    };
+    assert_eq!(rt; tree.node(HashNo(0)), root);
+    assert_leaf(rt, &tree, 1, Hash64(0xff));
+    assert_leaf(rt, &tree, 2, Hash64(0x1ff));
+    Ok(())
+}
+
+#[test]
+fn built_root(rt: HostRuntime) -> Result<(), Fail> {
+    built_root_in::<Brand>(&rt, rt.alloc(), Blank::new(1))?;
     Ok(())
 }
 

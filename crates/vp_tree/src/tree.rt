@@ -1,7 +1,8 @@
 ghost use Rattle.std.specs.Prelude.{◌≡◌, ◌+◌, ◌<◌, ◌≤◌, [], ◌++◌, length, IfOk, OnOk, nat_le, if◌then◌else◌, ◌∷◌, All, ◌≢◌, None};
 ghost use Rattle.std.specs.Option.{option_to_list};
-ghost use Rattle.vp_tree.specs.Building.{IsPlanFor, IsRebuilt};
-ghost use Rattle.vp_tree.specs.Nodes.{node_at, size};
+ghost use Rattle.media_types.specs.declared.limits.TheConstants.{MAX_HASHES, MAX_WORDS};
+ghost use Rattle.vp_tree.specs.Building.{IsBuiltWhole, IsPlanFor, IsRebuilt};
+ghost use Rattle.vp_tree.specs.Nodes.{node_at, size, words_in};
 ghost use Rattle.vp_tree.specs.Placing.{CanTake, IsPlaced, way};
 ghost use Rattle.vp_tree.specs.Searching.{filter_of, hit, opens_inner, opens_outer, open_inner, open_outer, reads};
 ghost use Rattle.vp_tree.specs.Shape.{IsTree};
@@ -13,7 +14,7 @@ use crate::node::NodeView;
 use crate::placing::grow_way;
 use crate::plan::{BuildPlan, InsertPlan};
 use crate::table::NodeTable;
-use media_types::{Hash64, HashNo, NoMemory, Steps, distance};
+use media_types::{Hash64, HashNo, MAX_HASHES, NoMemory, Steps, distance};
 use std::alloc::Global;
 use std::marker::Model;
 use std::sync::ledger::Ledger;
@@ -51,7 +52,7 @@ impl Tree {
         }
     }
 
-    /// The number of words, at most 4,000,000.
+    /// The number of words, at most `MAX_WORDS`.
     pub fn len(&self) -> u32
         ensures len { result ≡ length self.now.rows }
         ensures tree { IsTree self.now.rows }
@@ -67,16 +68,18 @@ impl Tree {
         self.table.node(at.0 as usize)
     }
 
-    /// Makes room for a word. It changes nothing else.
+    /// Makes room for a word, and for as many as a file has, so that the new words of one file are all
+    /// planned before the first is placed. It changes nothing else.
     pub fn plan_insert(&mut self, word: Hash64) -> Result<InsertPlan, NoMemory>
-        requires few { length self.old.rows < 4000000 }
+        requires few { length self.old.rows < MAX_WORDS }
         requires other { All (λ node. node.word ≢ word) self.old.rows }
         ensures rows { self.new.rows ≡ self.old.rows }
         ensures plan { IfOk result (λ plan. plan.word ≡ word) }
         ensures ready { OnOk result (CanTake self.new word) }
+        ensures room { OnOk result (MAX_HASHES ≤ self.new.spare) }
         ensures spare { self.old.spare ≤ self.new.spare }
     {
-        self.table.reserve_one()?;
+        self.table.reserve(MAX_HASHES)?;
         Ok(InsertPlan { word })
     }
 
@@ -91,6 +94,7 @@ impl Tree {
     ) -> (HashNo, Option<HashNo>)
         requires { CanTake self.old plan.word }
         ensures placed { IsPlaced self.old.rows self.new.rows plan.word }
+        ensures words { words_in self.new.rows ≡ words_in self.old.rows ++ plan.word ∷ [] }
         ensures spare { self.old.spare ≤ self.new.spare + 1 }
         ensures number { result.0.0 ≡ length self.old.rows }
         ensures branch { result.1 ≡ None }
@@ -126,6 +130,8 @@ impl Tree {
     pub fn commit_build(&mut self, plan: BuildPlan)
         requires { IsPlanFor self.old.rows plan }
         ensures rebuilt { IsRebuilt self.old.rows self.new.rows plan.top.0 }
+        ensures words { words_in self.new.rows ≡ words_in self.old.rows }
+        ensures whole { plan.top.0 ≡ 0 → IsBuiltWhole self.new.rows }
         ensures spare { self.new.spare ≡ self.old.spare }
     {
         replace_nodes(&mut self.table, &plan);

@@ -1,3 +1,4 @@
+use Rattle.tree_upkeep.proofs.Ends as ends
 use Rattle.tree_upkeep.proofs.Members.{this_file, other_files}
 use Rattle.tree_upkeep.proofs.Places.{ascend-noted}
 use Rattle.tree_upkeep.proofs.theorems.laws.Goals as goal
@@ -10,3 +11,9 @@ returns-clause-others c = other_files
 
 pub returns-clause-ascending : goal.returns-clause-ascending
 returns-clause-ascending c = ascend-noted
+
+pub returns-clause-at_end : goal.returns-clause-at_end
+returns-clause-at_end c = ends.at_end
+
+pub returns-clause-taken_out : goal.returns-clause-taken_out
+returns-clause-taken_out c = ends.taken_out

@@ -1,3 +1,4 @@
+use Rattle.media_types.specs.declared.limits.TheConstants.{MAX_WORDS}
 use Rattle.vp_tree.proofs.Built.{stack-smaller, stack-few, stack-left}
 use Rattle.vp_tree.proofs.building.build_nodes.Goals as goal
 
@@ -8,7 +9,7 @@ loop-part-smaller c =
 
 pub loop-part-preserved : goal.loop-part-preserved
 loop-part-preserved c = record {
-  few = stack-few 4000000 (λ v. v.items) c.loop-part.stack.items c.pop.new.self.items c.build_first.new.stack.items c.in-Some.part _
+  few = stack-few MAX_WORDS (λ v. v.items) c.loop-part.stack.items c.pop.new.self.items c.build_first.new.stack.items c.in-Some.part _
       c.in-Some.ensures.items c.deref.ensures.value c.in_ok-build_first.ensures.stack c.loop-part.invariant.few;
   left = stack-left (λ v. v.items) c.loop-part.stack.items c.pop.new.self.items c.build_first.new.stack.items c.in-Some.part _ _ _ _
       c.in-Some.ensures.items c.deref.ensures.value c.in_ok-build_first.ensures.stack c.in_ok-build_first.ensures.nodes c.loop-part.invariant.left;

@@ -1,36 +1,45 @@
-use Rattle.std.proofs.Common.{◌≡◌, ℕ, length, sum_by, ap, arith, rules}
+use Rattle.std.proofs.Common.{◌≡◌, ℕ, length, arith, rules}
 use Rattle.std.proofs.lemmas.List.Sorted.{IsNonDecreasingBy-from_sort_by_key}
 use Rattle.media_types.specs.declared.numbers.HashNo.{HashNo}
-use Rattle.vp_tree.specs.Searching.{reads_in}
-use Rattle.vp_tree.proofs.Finding.{reads-taken, taken-inside, searching-more, searching-done}
+use Rattle.vp_tree.proofs.Finding.{reads-taken, read-left, taken-inside, searching-more, searching-done}
 use Rattle.vp_tree.proofs.Sorting.{sorted-found}
 use Rattle.vp_tree.proofs.tree.Tree.search.Goals as goal
 
 pub loop-at-smaller : goal.loop-at-smaller
 loop-at-smaller g c =
     let inside = taken-inside _ _ _ _ _ _ (rw c.in-Some.ensures.items at c.loop-at.invariant.searching) in
-    let fewer = reads-taken c.args.self.now.rows c.args.query c.args.within c.pop.new.self.items c.in-Some.at c.len.ensures.tree inside in
-    let count = λ (s : HashNo). reads_in (length c.args.self.now.rows) c.args.self.now.rows c.args.query c.args.within s.0 in
-    omega (arith, fewer, ap (sum_by count) c.in-Some.ensures.items, ap (sum_by count) c.in_ok-visit.ensures.stack)
+    omega (
+      arith,
+      reads-taken c.args.self.now.rows c.args.query c.args.within c.loop-at.stack.items c.pop.new.self.items c.visit.new.stack.items c.in-Some.at
+          c.len.ensures.tree inside c.in-Some.ensures.items c.in_ok-visit.ensures.stack,
+    )
 
 pub loop-at-preserved : goal.loop-at-preserved
 loop-at-preserved g c =
     let before = rw c.in-Some.ensures.items at c.loop-at.invariant.searching in
     let inside = taken-inside _ _ _ _ _ _ before in
-    let fewer = reads-taken c.args.self.now.rows c.args.query c.args.within c.pop.new.self.items c.in-Some.at c.len.ensures.tree inside in
-    let count = λ (s : HashNo). reads_in (length c.args.self.now.rows) c.args.self.now.rows c.args.query c.args.within s.0 in
     record {
       searching = rw (c.in_ok-visit.ensures.stack, c.in_ok-visit.ensures.hits)
           (searching-more c.args.self.now.rows c.args.query c.args.within c.loop-at.hits.items c.pop.new.self.items c.in-Some.at c.len.ensures.tree before);
-      counted = omega (arith, fewer, c.loop-at.invariant.counted, c.in_ok-visit.ensures.steps, ap (sum_by count) c.in-Some.ensures.items, ap (sum_by count) c.in_ok-visit.ensures.stack);
+      counted = omega (
+        arith,
+        reads-taken c.args.self.now.rows c.args.query c.args.within c.loop-at.stack.items c.pop.new.self.items c.visit.new.stack.items c.in-Some.at
+            c.len.ensures.tree inside c.in-Some.ensures.items c.in_ok-visit.ensures.stack,
+        c.loop-at.invariant.counted,
+        c.in_ok-visit.ensures.steps,
+      );
     }
 
 pub returns-in_err-visit-clause-at_most : goal.returns-in_err-visit-clause-at_most
 returns-in_err-visit-clause-at_most g c =
     let inside = taken-inside _ _ _ _ _ _ (rw c.in-Some.ensures.items at c.loop-at.invariant.searching) in
-    let fewer = reads-taken c.args.self.now.rows c.args.query c.args.within c.pop.new.self.items c.in-Some.at c.len.ensures.tree inside in
-    let count = λ (s : HashNo). reads_in (length c.args.self.now.rows) c.args.self.now.rows c.args.query c.args.within s.0 in
-    omega (arith, fewer, c.loop-at.invariant.counted, c.in_err-visit.ensures.steps, ap (sum_by count) c.in-Some.ensures.items)
+    omega (
+      arith,
+      read-left c.args.self.now.rows c.args.query c.args.within c.loop-at.stack.items c.pop.new.self.items c.in-Some.at c.len.ensures.tree inside
+          c.in-Some.ensures.items,
+      c.loop-at.invariant.counted,
+      c.in_err-visit.ensures.steps,
+    )
 
 pub returns-clause-found : goal.returns-clause-found
 returns-clause-found g c =
