@@ -1,0 +1,5 @@
+use Rattle.potential_pairs.proofs.PlannedRows.{of-empty}
+use Rattle.potential_pairs.proofs.pairs.Pairs.new.Goals as goal
+
+pub returns-clause-of : goal.returns-clause-of
+returns-clause-of c = λ R. of-empty R _ c.new.ensures.rows c.new-3.ensures

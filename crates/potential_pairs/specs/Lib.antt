@@ -1,0 +1,5 @@
+pub mod Levels
+pub mod Naming
+pub mod Pages
+pub mod Planning
+pub mod Potential
