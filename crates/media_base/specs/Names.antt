@@ -20,6 +20,9 @@ field_text fields.A = codes "a"
 field_text fields.B = codes "b"
 field_text fields.File = codes "file"
 field_text fields.Decision = codes "decision"
+field_text fields.Files = codes "files"
+field_text fields.Distance = codes "distance"
+field_text fields.N = codes "n"
 
 -- the number of an import's status in a reply
 abbrev pub import_number : ImportStatus → ℕ

@@ -1,4 +1,4 @@
-ghost use Rattle.std.specs.Prelude.{◌≡◌, ◌<◌, ◌≤◌, length, All, is_err, IfOk};
+ghost use Rattle.std.specs.Prelude.{◌≡◌, ◌<◌, ◌≤◌, length, All, is_err, IfOk, OnOk};
 ghost use Rattle.media_types.specs.Cause.{HasCause, failed};
 ghost use Rattle.media_base.specs.Transfer.{Reads};
 ghost use Rattle.media_base.specs.Scripts.{fails_next, given_next, after_read};
@@ -79,6 +79,7 @@ impl Source for BytesSource {
     fn read(&mut self, into: &mut [u8]) -> Result<usize, Failed>
         requires { 0 < length into.old }
         ensures cause { HasCause self.old.faults self.new.faults failed result }
+        ensures quiet { OnOk result (self.new.faults ≡ self.old.faults) }
         ensures reads { Reads (Some self.old.left) (Some self.new.left) into.new result }
         ensures script { is_err result ≡ fails_next self.old.fails self.old.calls }
         ensures count { IfOk result (λ count. count ≡ given_next self.old (length into.old)) }

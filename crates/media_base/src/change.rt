@@ -1,6 +1,6 @@
 ghost use Rattle.std.specs.Prelude.{◌≡◌, IfOk};
 
-use media_types::{Decision, DecisionNo, Listed, NewFile, NoMemory};
+use media_types::{Decision, DecisionNo, Listed, NewFile, NoMemory, SearchDistance, Searching};
 use std::alloc::Global;
 
 /// A change of the records, as it is kept: what a command did, without the answer.
@@ -12,6 +12,10 @@ pub enum Change {
     Decision(Decision),
     /// The decision of this number was undone.
     Undo(DecisionNo),
+    /// Files are searched within this distance from now on.
+    Distance(SearchDistance),
+    /// These files were searched within this distance.
+    Searched(Searching),
 }
 
 /// Changes, in the order in which they were kept.
@@ -26,6 +30,8 @@ impl Change {
             Change::File(file) => Ok(Change::File(file.copied(alloc)?)),
             Change::Decision(decision) => Ok(Change::Decision(*decision)),
             Change::Undo(decision) => Ok(Change::Undo(*decision)),
+            Change::Distance(distance) => Ok(Change::Distance(*distance)),
+            Change::Searched(searching) => Ok(Change::Searched(searching.copied(alloc)?)),
         }
     }
 }

@@ -1,4 +1,4 @@
-use media_types::{Decision, DecisionNo, FileNo, NewFile};
+use media_types::{BatchSize, Decision, DecisionNo, FileNo, NewFile, SearchDistance, Searching};
 
 /// Who asks.
 #[derive(Clone, Copy, Debug, PartialEq, Eq, Hash)]
@@ -18,4 +18,14 @@ pub enum Command {
     Undo(DecisionNo),
     /// Tell how a file is related to the others.
     Relations(FileNo),
+    /// Search within this distance from now on.
+    SearchDistance(SearchDistance),
+    /// Search the next files of the search queue, so many.
+    SearchJob(BatchSize),
+    /// Search these files within this distance.
+    SearchFiles(Searching),
+    /// Tell how much waits to be done.
+    Queues,
+    /// Build the branch of the tree anew that needs it most.
+    RebalanceJob,
 }

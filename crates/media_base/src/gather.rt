@@ -1,4 +1,4 @@
-ghost use Rattle.std.specs.Prelude.{◌≡◌, ◌+◌, ◌≤◌, [], ◌++◌, length};
+ghost use Rattle.std.specs.Prelude.{◌≡◌, ◌+◌, ◌≤◌, [], ◌++◌, OnOk, OnErr, length};
 ghost use Rattle.std.specs.List.{flat_map};
 ghost use Rattle.media_types.specs.Cause.{HasCause, failed};
 ghost use Rattle.media_base.specs.Transfer.{Sends, Gathers};
@@ -36,10 +36,14 @@ impl Gather {
         }
     }
 
-    /// Puts a piece behind what is gathered. Where it doesn't fit, what is gathered is written first.
+    /// Puts a piece behind what is gathered. Where it doesn't fit, what is gathered is written first. After a
+    /// write that failed nothing is gathered.
     pub fn put<W: Sink>(&mut self, piece: &[u8], sink: &mut W) -> Result<(), Failed>
         ensures cause { HasCause (W.faults sink.old) (W.faults sink.new) failed result }
+        ensures quiet { OnOk result (W.faults sink.new ≡ W.faults sink.old) }
         ensures gathers { Gathers (W.taken sink.old) self.old (W.taken sink.new) self.new piece.now result }
+        ensures empty { OnErr result (self.new ≡ []) }
+
         // Nothing is written while there is room.
         ensures held { length self.old + length piece.now ≤ GATHERED
             → (self.new ≡ self.old ++ piece.now) × (sink.new ≡ sink.old) }
@@ -53,7 +57,9 @@ impl Gather {
     // A piece for which what is gathered has to make room.
     fn put_anew<W: Sink>(&mut self, piece: &[u8], sink: &mut W) -> Result<(), Failed>
         ensures cause { HasCause (W.faults sink.old) (W.faults sink.new) failed result }
+        ensures quiet { OnOk result (W.faults sink.new ≡ W.faults sink.old) }
         ensures gathers { Gathers (W.taken sink.old) self.old (W.taken sink.new) self.new piece.now result }
+        ensures empty { OnErr result (self.new ≡ []) }
     {
         match self.flush(sink) {
             Ok(()) => self.put_alone(piece, sink),
@@ -65,7 +71,9 @@ impl Gather {
     fn put_alone<W: Sink>(&mut self, piece: &[u8], sink: &mut W) -> Result<(), Failed>
         requires { self.old ≡ [] }
         ensures cause { HasCause (W.faults sink.old) (W.faults sink.new) failed result }
+        ensures quiet { OnOk result (W.faults sink.new ≡ W.faults sink.old) }
         ensures gathers { Gathers (W.taken sink.old) self.old (W.taken sink.new) self.new piece.now result }
+        ensures empty { OnErr result (self.new ≡ []) }
     {
         match self.bytes.try_extend_from_slice(piece) {
             Ok(()) => Ok(()),
@@ -73,11 +81,13 @@ impl Gather {
         }
     }
 
-    /// Puts several pieces, one behind the other.
+    /// Puts several pieces, one behind the other. After a write that failed nothing is gathered.
     pub fn put_all<W: Sink>(&mut self, pieces: &[&[u8]], sink: &mut W) -> Result<(), Failed>
         ensures cause { HasCause (W.faults sink.old) (W.faults sink.new) failed result }
+        ensures quiet { OnOk result (W.faults sink.new ≡ W.faults sink.old) }
         ensures gathers { Gathers (W.taken sink.old) self.old (W.taken sink.new) self.new
             (flat_map (λ piece. piece.now) pieces.now) result }
+        ensures empty { OnErr result (self.new ≡ []) }
     {
         for piece in pieces {
             match self.put(piece, sink) {
@@ -91,6 +101,7 @@ impl Gather {
     /// Writes what is gathered. Nothing is gathered after it, whatever it answers.
     pub fn flush<W: Sink>(&mut self, sink: &mut W) -> Result<(), Failed>
         ensures cause { HasCause (W.faults sink.old) (W.faults sink.new) failed result }
+        ensures quiet { OnOk result (W.faults sink.new ≡ W.faults sink.old) }
         ensures sends { Sends (W.taken sink.old) (W.taken sink.new) self.old result }
         ensures empty { self.new ≡ [] }
     {

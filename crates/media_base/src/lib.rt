@@ -23,13 +23,14 @@ pub use command::{Caller, Command};
 pub use gather::Gather;
 pub use keeper::{Keeper, NextFault, PutFault, StartFault};
 pub use media_types::{
-    ByteList, CallList, Code, Decision, DecisionList, DecisionNo, DeskNo, Failed, FileHashes,
-    FileList, FileNo, FileRelations, Hash64, HashList, HashNo, KeyBytes, KeyNo, Listed,
-    MAX_DECISIONS, MAX_FILES, MAX_HASHES, NewFile, NoMemory, ServiceNo, Sha, SizeList, Steps,
-    TagNo, distance,
+    BatchSize, ByteList, CallList, Code, Decision, DecisionList, DecisionNo, DeskNo,
+    FIRST_DISTANCE, Failed, FileBatch, FileHashes, FileList, FileNo, FileRelations, Hash64,
+    HashList, HashNo, KeyBytes, KeyNo, Listed, MAX_BATCH, MAX_DECISIONS, MAX_DISTANCE, MAX_FILES,
+    MAX_HASHES, MAX_WORDS, NewFile, NoMemory, SearchDistance, Searching, ServiceNo, Sha, SizeList,
+    Steps, TagNo, distance,
 };
 pub use refusal::{FieldName, Refusal};
-pub use reply::{ImportStatus, Imported, Reply};
+pub use reply::{ImportStatus, Imported, QueueLengths, Reply, SearchCounts};
 pub use sink::{Sink, write_all};
 pub use source::Source;
 pub use status::Status;

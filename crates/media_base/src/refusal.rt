@@ -14,6 +14,9 @@ pub enum FieldName {
     B,
     File,
     Decision,
+    Files,
+    Distance,
+    N,
 }
 
 /// Why a request got no Ok reply. A refused request changes nothing.
@@ -25,8 +28,14 @@ pub enum Refusal {
     NotJson,
     /// It is no object, or this field is the first that is missing or has another form.
     NotARequest(FieldName),
-    /// The SHA-256 isn't 64 hexadecimal digits.
+    /// The SHA-256 isn't 64 hexadecimal digits, or a hash isn't 16.
     BadHash,
+    /// There are more hashes than a file has.
+    TooManyHashes,
+    /// A distance is over 16.
+    BadDistance,
+    /// A number of things to do at once is 0 or over 1,024, or the files are none or so many.
+    BadNumber,
     /// A file that it names isn't there.
     UnknownFile,
     /// The decision names one file twice.
@@ -67,6 +76,9 @@ impl FieldName {
             FieldName::B => "b",
             FieldName::File => "file",
             FieldName::Decision => "decision",
+            FieldName::Files => "files",
+            FieldName::Distance => "distance",
+            FieldName::N => "n",
         }
     }
 }

@@ -1,5 +1,5 @@
 use crate::refusal::Refusal;
-use media_types::{DecisionNo, FileNo, FileRelations};
+use media_types::{DecisionNo, FileNo, FileRelations, SearchDistance};
 
 /// What an import found. The numbers that replies give follow the Hydrus Client API's import statuses.
 #[derive(Clone, Copy, Debug, PartialEq, Eq, Hash)]
@@ -17,6 +17,24 @@ pub struct Imported {
     pub status: ImportStatus,
 }
 
+/// What a search did, and what is left.
+#[derive(Clone, Copy, Debug, PartialEq, Eq, Hash)]
+pub struct SearchCounts {
+    /// Files whose searched distance rose.
+    pub searched: u64,
+    /// Files in the search queue after it.
+    pub left: u64,
+}
+
+/// How much waits to be done.
+#[derive(Clone, Copy, Debug, PartialEq, Eq, Hash)]
+pub struct QueueLengths {
+    /// Files that are to be searched.
+    pub search: u64,
+    /// Tags whose siblings and parents don't show yet.
+    pub display: u64,
+}
+
 /// The answer to a command.
 #[derive(Debug, Drop)]
 pub enum Reply {
@@ -26,5 +44,11 @@ pub enum Reply {
     /// The number of the decision that is undone now.
     Undone(DecisionNo),
     Relations(FileRelations),
+    /// The distance within which files are searched now.
+    Distance(SearchDistance),
+    Searched(SearchCounts),
+    Queues(QueueLengths),
+    /// What needed it most is built anew, where anything needed it.
+    Rebalanced,
     Refused(Refusal),
 }

@@ -1,4 +1,4 @@
-ghost use Rattle.std.specs.Prelude.{ℕ, ◌<◌, List, Option, length};
+ghost use Rattle.std.specs.Prelude.{◌≡◌, ℕ, ◌<◌, List, Option, OnOk, length};
 ghost use Rattle.media_types.specs.Cause.{HasCause, failed};
 ghost use Rattle.media_base.specs.Transfer.{Reads};
 
@@ -16,5 +16,6 @@ pub trait Source {
     fn read(&mut self, into: &mut [u8]) -> Result<usize, Failed>
         requires { 0 < length into.old }
         ensures cause { HasCause (faults self.old) (faults self.new) failed result }
+        ensures quiet { OnOk result (faults self.new ≡ faults self.old) }
         ensures reads { Reads (left self.old) (left self.new) into.new result };
 }

@@ -87,6 +87,9 @@ fn names(rt: HostRuntime) {
         (FieldName::B, "b"),
         (FieldName::File, "file"),
         (FieldName::Decision, "decision"),
+        (FieldName::Files, "files"),
+        (FieldName::Distance, "distance"),
+        (FieldName::N, "n"),
     ];
     for (field, text) in fields {
         assert_eq!(rt; field.text(), text);
@@ -123,10 +126,23 @@ fn a_change_is_copied(rt: HostRuntime) -> Result<(), Fail> {
         a: FileNo(1),
         b: FileNo(2),
     };
+    let mut list = FileList::new(alloc);
+    list.push(FileNo(8))?;
+    list.push(FileNo(7))?;
+    let files = match FileBatch::new(list) {
+        Some(files) => files,
+        None => panic!(rt; "two files are a batch"),
+    };
+    let searching = Searching {
+        files,
+        distance: SearchDistance::first(),
+    };
     for change in [
         Change::File(file),
         Change::Decision(decision),
         Change::Undo(DecisionNo(3)),
+        Change::Distance(SearchDistance::first()),
+        Change::Searched(searching),
     ] {
         let copy = change.copied(alloc)?;
         assert_eq!(rt;

@@ -1,5 +1,5 @@
-ghost use Rattle.std.specs.Prelude.{OnOk};
-ghost use Rattle.media_base.specs.Keeping.{HasGivenAll};
+ghost use Rattle.std.specs.Prelude.{◌≡◌, option_map, OnOk};
+ghost use Rattle.media_base.specs.Keeping.{HasGivenAll, HasMore, next_place};
 
 use super::*;
 use media_base::{
@@ -45,6 +45,19 @@ fn take_all<K: Keeper>(alloc: Global, keeper: &mut K) -> Result<ChangeList, Fail
         changes.push(keeper.next()?)?;
     }
     Ok(changes)
+}
+
+// Asks for the next change, and asks again where the keeper gave none.
+fn next_at_second_try<K: Keeper>(keeper: &mut K) -> Result<Change, NextFault>
+    requires ready { K.ready keeper.old }
+    requires more { HasMore (K.place keeper.old) }
+    ensures still_ready { K.ready keeper.new }
+    ensures further { OnOk result (K.place keeper.new ≡ option_map next_place (K.place keeper.old)) }
+{
+    match keeper.next() {
+        Ok(change) => Ok(change),
+        Err(_) => keeper.next(),
+    }
 }
 
 // How many calls are Ok: a start that tells one change, a next and a put, up to the first that isn't.
@@ -113,6 +126,20 @@ fn faults_have_their_names(rt: HostRuntime) -> Result<(), Fail> {
     assert_undos(&rt, &take_all(alloc, &mut keeper)?, &[5]);
     assert_eq!(rt; keeper.put(&undo(6)), Err(PutFault::Failed));
     assert_undos(&rt, keeper.changes(), &[5]);
+    Ok(())
+}
+
+#[test]
+fn a_change_comes_at_the_second_try(rt: HostRuntime) -> Result<(), Fail> {
+    let alloc = rt.alloc();
+    let fails = calls(alloc, &[2])?;
+    let mut keeper = MemoryKeeper::new(alloc, undos(alloc, &[5, 6])?, fails, 9);
+    let told = keeper.start()?;
+    assert_eq!(rt; told, 2);
+    let mut changes = ChangeList::new(alloc);
+    changes.push(next_at_second_try(&mut keeper)?)?;
+    changes.push(keeper.next()?)?;
+    assert_undos(&rt, &changes, &[5, 6]);
     Ok(())
 }
 

@@ -1,4 +1,4 @@
-use Rattle.std.proofs.Common.{Ok, Err, arith}
+use Rattle.std.proofs.Common.{Ok, Err, ◌∙◌}
 use Rattle.media_types.specs.Cause.{failed}
 use Rattle.media_base.specs.GatherLaws.{gathers_item, front_of_items, gathered_items}
 use Rattle.media_base.proofs.gather.Gather.put_all.Goals as goal
@@ -12,7 +12,7 @@ pub loop-piece-preserved : goal.loop-piece-preserved
 loop-piece-preserved g c =
     let taken = g.W.Sink.taken in
     record {
-      later = omega (arith, c.loop-piece.invariant.later, c.put.ensures.cause.later);
+      quiet = c.in-Ok.ensures.quiet ∙ c.loop-piece.invariant.quiet;
       completes = λ last held result rest. c.loop-piece.invariant.completes last held result (gathers_item (λ piece. piece.now) (taken c.loop-piece.sink) (taken c.put.new.sink) last c.loop-piece.self c.put.new.self held c.args.pieces.now c.loop-piece.piece-index _ result c.loop-piece-test.true c.in-Ok.ensures.gathers rest);
     }
 
