@@ -1,20 +1,17 @@
--- Each field has its form exactly where its reading gives a value.
-use Rattle.std.proofs.Common.{◌≡◌, ℕ, ◌<◌, ◌⊎◌, inl, inr, List, [], Option, Some, None, option_map, option_and_then, Result, Ok, Err, IsOk, refl, sym, ap, ◌∙◌, arith}
-use Rattle.std.specs.Option.{ok_or}
-use Rattle.std.specs.Result.{result_ok}
+-- Each kind of field is read as what it says.
+use Rattle.std.proofs.Common.{◌≡◌, ℕ, ◌^◌, ◌<◌, inl, inr, List, [], ◌∷◌, map, Option, Some, None, option_map, option_and_then, refl, sym, ap, subst, ◌∙◌, arith}
+use Rattle.std.specs.Prelude.{All}
 use Rattle.std.proofs.lemmas.Bool.Decides.{nat_tests}
-use Rattle.hex.specs.declared.error.FromHexError.{FromHexError}
-use Rattle.hex.specs.Hex.{decode_of, decode_sized}
-use Rattle.hex.proofs.HexLemmas.{IsOk-decode_sized, decode_sized-twice}
+use Rattle.std.proofs.lemmas.List.Elements.{All-nil, All-cons, All-head, All-tail}
 use Rattle.serde_json.specs.Data.{Data, null, boolean, number, string, array, object, Items, no_items, item, Num, unsigned, negative, float}
 use Rattle.serde_json.specs.Find.{as_str, as_number, as_u64, as_array}
-use Rattle.media_types.specs.declared.hash.Hash64.{Hash64}
-use Rattle.media_types.specs.declared.hash.Sha.{Sha}
+use Rattle.serde_json.specs.View.{items_of}
+use Rattle.media_types.specs.declared.numbers.FileNo.{FileNo}
 use Rattle.media_base.specs.declared.refusal.FieldName.{FieldName}
 use Rattle.media_base.specs.declared.refusal.FieldName.TheVariants as fields
-use Rattle.media_base.specs.declared.refusal.Refusal.TheVariants as refusals
-use Rattle.command_text.specs.Reading.{formed, field_of, text_of, number_of, below, text_at, whole_number_at, sha_with, sha_of, no_hashes_of, hashes_of, hashes_at}
-use Rattle.command_text.specs.Spelling.{HasField, HasText, HasNumber, IsHashText, HasNone}
+use Rattle.command_text.specs.Reading.{field_of, text_of, number_of, list_of, each_of, below, text_at, whole_number_at, texts_of, hash_texts_of, hash_texts_at, file_in, files_of, files_at}
+use Rattle.command_text.specs.Spelling.{HasField, HasText, HasNumber, HasFiles, HasHashTexts, HasForm}
+use Rattle.command_text.proofs.Steps.{Reads, reads_formed}
 
 -- ---- options
 
@@ -25,9 +22,9 @@ pub then_some : {A B : Type 0} (f : A → Option B) (o : Option A) (y : B) → o
 then_some f None y e = cc e
 then_some f (Some x) y e = (x, refl, e)
 
-pub formed_ok : {A : Type 0} (name : FieldName) (o : Option A) (x : A) → formed name o ≡ Ok x → o ≡ Some x
-formed_ok name None x e = cc e
-formed_ok name (Some y) x e = cc e
+map_some : {A B : Type 0} (f : A → B) (o : Option A) (y : B) → option_map f o ≡ Some y → (x : A) × (o ≡ Some x) × (f x ≡ y)
+map_some f None y e = cc e
+map_some f (Some x) y e = (x, refl, some_same (f x) y e)
 
 -- ---- values
 
@@ -60,20 +57,30 @@ as_array-some (string s) items e = cc e
 as_array-some (array ds) items e = ap array (some_same ds items e)
 as_array-some (object ms) items e = cc e
 
--- ---- texts and numbers
+below-some : (limit n m : ℕ) → below limit n ≡ Some m → (n ≡ m) × (n < limit)
+below-some limit n m e = grind (arith, nat_tests)
 
-text_of-some : (name : FieldName) (value : Data) (text : List ℕ) → text_of name value ≡ Some text → HasText value name text
+below-fits : (limit n : ℕ) → n < limit → below limit n ≡ Some n
+below-fits limit n fits = grind (arith, nat_tests)
+
+-- ---- texts
+
+pub text_of-some : (name : FieldName) (value : Data) (text : List ℕ) → text_of name value ≡ Some text → HasText value name text
 text_of-some name value text e =
     let p = then_some as_str (field_of name value) text e in
     p.1 ∙ ap Some (as_str-some p.0 text p.2)
 
-pub text_at-ok : (name : FieldName) (value : Data) (text : List ℕ) → text_at name value ≡ Ok text → HasText value name text
-unfolding text_at
-text_at-ok name value text e = text_of-some name value text (formed_ok name (text_of name value) text e)
+pub text_of-has : (name : FieldName) (value : Data) (text : List ℕ) → HasText value name text → text_of name value ≡ Some text
+text_of-has name value text has = ap (λ (field : Option Data). option_and_then as_str field) has
 
-pub text_at-has : (name : FieldName) (value : Data) (text : List ℕ) → HasText value name text → text_at name value ≡ Ok text
+-- a field of any text
+pub reads_text : (value : Data) (name : FieldName) → (HasForm value name → (text : List ℕ) × HasText value name text) → (((text : List ℕ) × HasText value name text) → HasForm value name)
+    → Reads value name (text_at name value) (HasText value name)
 unfolding text_at
-text_at-has name value text has = ap (λ (field : Option Data). formed name (option_and_then as_str field)) has
+reads_text value name said form =
+    reads_formed value name (text_of name value) (HasText value name) (text_of-some name value) (text_of-has name value) said (λ text has. form (text, has))
+
+-- ---- whole numbers
 
 pub number_of-some : (name : FieldName) (value : Data) (n : ℕ) → number_of name value ≡ Some n → HasField value name (number (unsigned n))
 number_of-some name value n e =
@@ -81,85 +88,119 @@ number_of-some name value n e =
     let q = then_some as_number (field_of name value) p.0 p.1 in
     q.1 ∙ ap Some (as_number-some q.0 p.0 q.2 ∙ ap number (as_u64-some p.0 n p.2))
 
-below-some : (limit n m : ℕ) → below limit n ≡ Some m → (n ≡ m) × (n < limit)
-below-some limit n m e = grind (arith, nat_tests)
+pub number_of-has : (name : FieldName) (value : Data) (n : ℕ) → HasField value name (number (unsigned n)) → number_of name value ≡ Some n
+number_of-has name value n has = ap (λ (field : Option Data). option_and_then as_u64 (option_and_then as_number field)) has
 
-below-fits : (limit n : ℕ) → n < limit → below limit n ≡ Some n
-below-fits limit n fits = grind (arith, nat_tests)
-
-pub whole_number_at-ok : (name : FieldName) (limit : ℕ) (value : Data) (n : ℕ) → whole_number_at name limit value ≡ Ok n → HasNumber value name limit n
-unfolding whole_number_at
-whole_number_at-ok name limit value n e =
-    let p = then_some (below limit) (number_of name value) n (formed_ok name (option_and_then (below limit) (number_of name value)) n e) in
+number_below : (name : FieldName) (limit : ℕ) (value : Data) (n : ℕ) → option_and_then (below limit) (number_of name value) ≡ Some n → HasNumber value name limit n
+number_below name limit value n e =
+    let p = then_some (below limit) (number_of name value) n e in
     let fits = below-some limit p.0 n p.2 in
     record {
       is = number_of-some name value p.0 p.1 ∙ ap (λ (m : ℕ). Some (number (unsigned m))) fits.0;
-      fits = omega (arith, fits.0, fits.1);
+      fits = subst (λ (m : ℕ). m < limit) fits.0 fits.1;
     }
 
-pub whole_number_at-has : (name : FieldName) (limit : ℕ) (value : Data) (n : ℕ) → HasNumber value name limit n → whole_number_at name limit value ≡ Ok n
+number_below-has : (name : FieldName) (limit : ℕ) (value : Data) (n : ℕ) → HasNumber value name limit n → option_and_then (below limit) (number_of name value) ≡ Some n
+number_below-has name limit value n has =
+    ap (option_and_then (below limit)) (number_of-has name value n has.is) ∙ below-fits limit n has.fits
+
+-- The field is read as a whole number below the limit.
+abbrev pub ReadsNumber : Data → FieldName → ℕ → Type 0
+ReadsNumber value name limit = Reads value name (whole_number_at name limit value) (HasNumber value name limit)
+
+pub reads_number : (value : Data) (name : FieldName) (limit : ℕ)
+    → (HasForm value name → (n : ℕ) × HasNumber value name limit n) → (((n : ℕ) × HasNumber value name limit n) → HasForm value name)
+    → ReadsNumber value name limit
 unfolding whole_number_at
-whole_number_at-has name limit value n has =
-    ap (λ (field : Option Data). formed name (option_and_then (below limit) (option_and_then as_u64 (option_and_then as_number field)))) has.is
-    ∙ ap (λ (found : Option ℕ). formed name found) (below-fits limit n has.fits)
+reads_number value name limit said form =
+    reads_formed value name (option_and_then (below limit) (number_of name value)) (HasNumber value name limit) (number_below name limit value) (number_below-has name limit value) said (λ n has. form (n, has))
 
--- ---- the SHA-256
+-- ---- lists
 
-sha_from-ok : (bytes : Result (List ℕ) FromHexError) (sha : Sha)
-    → ok_or (option_map sha_with (result_ok bytes)) refusals.BadHash ≡ Ok sha → bytes ≡ Ok sha.0
-sha_from-ok (Ok bytes) sha e =
-    let same : sha_with bytes ≡ sha = cc e in
-    ap (λ (found : Sha). Ok found.0) same
-sha_from-ok (Err error) sha e = cc e
+module _ {A : Type 0} (says : Data → Option A) (spelled : A → Data) (Fits : A → Type 0) (there : (value : Data) (x : A) → says value ≡ Some x → (value ≡ spelled x) × Fits x) where
+  -- items that say something are what spells it
+  each_of-some : (items : Items) (xs : List A) → each_of says items ≡ Some xs → (items ≡ items_of (map spelled xs)) × All Fits xs
+  each_of-some no_items xs e =
+      let none : [] ≡ xs = some_same [] xs e in
+      subst (λ (xs : List A). (no_items ≡ items_of (map spelled xs)) × All Fits xs) none (refl, All-nil Fits)
+  each_of-some (item value values) xs e =
+      let p = then_some (λ first. option_map (λ others. first ∷ others) (each_of says values)) (says value) xs e in
+      let q = map_some (λ others. p.0 ∷ others) (each_of says values) xs p.2 in
+      let first = there value p.0 p.1 in
+      let others = each_of-some values q.0 q.1 in
+      subst (λ (xs : List A). (item value values ≡ items_of (map spelled xs)) × All Fits xs) q.2
+      (ap (λ (value : Data). item value values) first.0 ∙ ap (item (spelled p.0)) others.0, All-cons Fits p.0 q.0 first.1 others.1)
 
--- what spells a SHA-256 is 64 digits that spell its bytes
-pub sha_of-ok : (text : List ℕ) (sha : Sha) → sha_of text ≡ Ok sha → IsHashText text × (decode_of text ≡ Ok sha.0)
-unfolding sha_of
-sha_of-ok text sha e =
-    let sized = sha_from-ok (decode_sized text 32) sha e in
-    let digits = (IsOk-decode_sized text 32).0 (rw sized refl) in
-    (record { sixty_four = digits.0; hexadecimal = digits.1 }, sym (decode_sized-twice text 32 digits.0) ∙ sized)
+-- what spells a list says it
+each_of-spelled : {A : Type 0} (says : Data → Option A) (spelled : A → Data) (Fits : A → Type 0) (back : (x : A) → Fits x → says (spelled x) ≡ Some x)
+    (xs : List A) → All Fits xs → each_of says (items_of (map spelled xs)) ≡ Some xs
+each_of-spelled says spelled Fits back [] fit = refl
+each_of-spelled says spelled Fits back (x ∷ xs) fit =
+    ap (λ (first : Option _). option_and_then (λ first. option_map (λ others. first ∷ others) (each_of says (items_of (map spelled xs)))) first) (back x (All-head Fits x xs fit))
+    ∙ ap (option_map (λ others. x ∷ others)) (each_of-spelled says spelled Fits back xs (All-tail Fits x xs fit))
 
-pub sha_of-spells : (text : List ℕ) (sha : Sha) → IsHashText text → decode_of text ≡ Ok sha.0 → sha_of text ≡ Ok sha
-unfolding sha_of
-sha_of-spells text sha digits spell =
-    ap (λ (bytes : Result (List ℕ) FromHexError). ok_or (option_map sha_with (result_ok bytes)) refusals.BadHash) (decode_sized-twice text 32 digits.sixty_four ∙ spell)
+-- ---- a list of files
 
-sha_from-either : (bytes : Result (List ℕ) FromHexError)
-    → ((IsOk bytes → ⊥) × (ok_or (option_map sha_with (result_ok bytes)) refusals.BadHash ≡ Err refusals.BadHash))
-    ⊎ ((sha : Sha) × (ok_or (option_map sha_with (result_ok bytes)) refusals.BadHash ≡ Ok sha))
-sha_from-either (Ok bytes) = inr (sha_with bytes, refl)
-sha_from-either (Err error) = inl (λ ok. cc ok, refl)
+abbrev file_data : FileNo → Data
+file_data file = number (unsigned file.0)
 
--- a text spells a SHA-256, or it isn't 64 digits and is refused for that
-pub sha_of-either : (text : List ℕ) → (¬ (IsHashText text) × (sha_of text ≡ Err refusals.BadHash)) ⊎ ((sha : Sha) × (sha_of text ≡ Ok sha))
-unfolding sha_of
-sha_of-either text =
-    elim (sha_from-either (decode_sized text 32)) [
-      | inl bad ↦ inl (λ digits. bad.0 ((IsOk-decode_sized text 32).1 (digits.sixty_four, digits.hexadecimal)), bad.1)
-      | inr good ↦ inr good
-    ]
+abbrev FileFits : FileNo → Type 0
+FileFits file = file.0 < 2 ^ 32
 
--- ---- hashes
+file_in-some : (value : Data) (file : FileNo) → file_in value ≡ Some file → (value ≡ file_data file) × FileFits file
+file_in-some value file e =
+    let p = map_some (λ n. record { 0 = n }) (option_and_then (below (2 ^ 32)) (option_and_then as_u64 (as_number value))) file e in
+    let q = then_some (below (2 ^ 32)) (option_and_then as_u64 (as_number value)) p.0 p.1 in
+    let r = then_some as_u64 (as_number value) q.0 q.1 in
+    let fits = below-some (2 ^ 32) q.0 p.0 q.2 in
+    let same : q.0 ≡ file.0 = fits.0 ∙ ap (λ (file : FileNo). file.0) p.2 in (
+      as_number-some value r.0 r.1 ∙ ap number (as_u64-some r.0 q.0 r.2) ∙ ap (λ (n : ℕ). number (unsigned n)) same,
+      subst (λ (n : ℕ). n < 2 ^ 32) same fits.1,
+    )
 
-no_hashes_of-some : (items : Items) (hashes : List Hash64) → no_hashes_of items ≡ Some hashes → (items ≡ no_items) × (hashes ≡ [])
-no_hashes_of-some no_items hashes e = (refl, cc e)
-no_hashes_of-some (item value values) hashes e = cc e
+file_in-spelled : (file : FileNo) → FileFits file → file_in (file_data file) ≡ Some file
+file_in-spelled file fits = ap (option_map (λ n. record { 0 = n })) (below-fits (2 ^ 32) file.0 fits)
 
-hashes_of-some : (field : Option Data) (hashes : List Hash64) → hashes_of field ≡ Some hashes
-    → ((field ≡ None) ⊎ (field ≡ Some (array no_items))) × (hashes ≡ [])
-hashes_of-some None hashes e = (inl refl, cc e)
-hashes_of-some (Some value) hashes e =
-    let p = then_some no_hashes_of (as_array value) hashes e in
-    let q = no_hashes_of-some p.0 hashes p.2 in
-    (inr (ap Some (as_array-some value p.0 p.1 ∙ ap array q.0)), q.1)
+files_in-some : (name : FieldName) (value : Data) (files : List FileNo) → option_and_then files_of (list_of name value) ≡ Some files → HasFiles value name files
+files_in-some name value files e =
+    let p = then_some files_of (list_of name value) files e in
+    let q = then_some as_array (field_of name value) p.0 p.1 in
+    let spelled = each_of-some file_in file_data FileFits file_in-some p.0 files p.2 in
+    record { is = q.1 ∙ ap Some (as_array-some q.0 p.0 q.2 ∙ ap array spelled.0); fit = spelled.1 }
 
-pub hashes_at-ok : (value : Data) (hashes : List Hash64) → hashes_at value ≡ Ok hashes → HasNone value fields.Hashes × (hashes ≡ [])
-unfolding hashes_at
-hashes_at-ok value hashes e =
-    hashes_of-some (field_of fields.Hashes value) hashes (formed_ok fields.Hashes (hashes_of (field_of fields.Hashes value)) hashes e)
+files_in-has : (name : FieldName) (value : Data) (files : List FileNo) → HasFiles value name files → option_and_then files_of (list_of name value) ≡ Some files
+files_in-has name value files has =
+    ap (λ (field : Option Data). option_and_then files_of (option_and_then as_array field)) has.is
+    ∙ each_of-spelled file_in file_data FileFits file_in-spelled files has.fit
 
-pub hashes_at-has : (value : Data) → HasNone value fields.Hashes → hashes_at value ≡ Ok []
-unfolding hashes_at
-hashes_at-has value (inl none) = ap (λ (field : Option Data). formed fields.Hashes (hashes_of field)) none
-hashes_at-has value (inr empty) = ap (λ (field : Option Data). formed fields.Hashes (hashes_of field)) empty
+pub reads_files : (value : Data) → Reads value fields.Files (files_at value) (HasFiles value fields.Files)
+unfolding files_at
+reads_files value =
+    reads_formed value fields.Files (option_and_then files_of (list_of fields.Files value)) (HasFiles value fields.Files) (files_in-some fields.Files value) (files_in-has fields.Files value) (λ form. form) (λ files has. (files, has))
+
+-- ---- a list of texts that may be missing
+
+abbrev AnyText : List ℕ → Type 0
+AnyText text = Unit {0}
+
+texts_of-some : (items : Items) (texts : List (List ℕ)) → texts_of items ≡ Some texts → items ≡ items_of (map string texts)
+texts_of-some items texts e =
+    (each_of-some as_str string AnyText (λ value text is. (as_str-some value text is, tt)) items texts e).0
+
+texts_of-spelled : (texts : List (List ℕ)) → texts_of (items_of (map string texts)) ≡ Some texts
+texts_of-spelled texts = each_of-spelled as_str string AnyText (λ text any. refl) texts (λ k d within. tt)
+
+hash_texts-some : (value : Data) (field : Option Data) (texts : List (List ℕ)) → field_of fields.Hashes value ≡ field → hash_texts_of field ≡ Some texts → HasHashTexts value texts
+hash_texts-some value None texts is e = inr (is, sym (some_same [] texts e))
+hash_texts-some value (Some inner) texts is e =
+    let p = then_some texts_of (as_array inner) texts e in
+    inl (is ∙ ap Some (as_array-some inner p.0 p.1 ∙ ap array (texts_of-some p.0 texts p.2)))
+
+hash_texts-has : (value : Data) (texts : List (List ℕ)) → HasHashTexts value texts → hash_texts_of (field_of fields.Hashes value) ≡ Some texts
+hash_texts-has value texts (inl has) = ap hash_texts_of has ∙ texts_of-spelled texts
+hash_texts-has value texts (inr none) = ap hash_texts_of none.0 ∙ ap Some (sym none.1)
+
+pub reads_hash_texts : (value : Data) → Reads value fields.Hashes (hash_texts_at value) (HasHashTexts value)
+unfolding hash_texts_at
+reads_hash_texts value =
+    reads_formed value fields.Hashes (hash_texts_of (field_of fields.Hashes value)) (HasHashTexts value) (λ texts e. hash_texts-some value (field_of fields.Hashes value) texts refl e) (hash_texts-has value) (λ form. form) (λ texts has. (texts, has))

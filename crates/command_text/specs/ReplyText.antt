@@ -5,8 +5,10 @@ use Rattle.media_types.specs.declared.file_relations.FileRelations.{FileRelation
 use Rattle.media_types.specs.declared.numbers.DecisionNo.{DecisionNo}
 use Rattle.media_types.specs.declared.numbers.FileNo.{FileNo}
 use Rattle.media_base.specs.declared.reply.Imported.{Imported}
+use Rattle.media_base.specs.declared.reply.QueueLengths.{QueueLengths}
 use Rattle.media_base.specs.declared.reply.Reply.{Reply}
 use Rattle.media_base.specs.declared.reply.Reply.TheVariants as replies
+use Rattle.media_base.specs.declared.reply.SearchCounts.{SearchCounts}
 use Rattle.media_base.specs.declared.refusal.Refusal.{Refusal}
 use Rattle.media_base.specs.declared.refusal.Refusal.TheVariants as refusals
 use Rattle.media_base.specs.Names.{field_text, import_number}
@@ -19,6 +21,21 @@ decided_text decision = codes "{\"decision\":" ++ (decimal decision.0 ++ codes "
 
 unfoldable pub undone_text : DecisionNo → List ℕ
 undone_text decision = codes "{\"undone\":" ++ (decimal decision.0 ++ codes "}")
+
+-- ---- searches
+
+-- a distance of so many bits
+unfoldable pub distance_text : ℕ → List ℕ
+distance_text distance = codes "{\"distance\":" ++ (decimal distance ++ codes "}")
+
+unfoldable pub searched_text : SearchCounts → List ℕ
+searched_text counts = codes "{\"searched\":" ++ (decimal counts.searched ++ (codes ",\"left\":" ++ (decimal counts.left ++ codes "}")))
+
+unfoldable pub queues_text : QueueLengths → List ℕ
+queues_text queues = codes "{\"search\":" ++ (decimal queues.search ++ (codes ",\"display\":" ++ (decimal queues.display ++ codes "}")))
+
+unfoldable pub done_text : List ℕ
+done_text = codes "{\"done\":true}"
 
 -- ---- relations
 
@@ -63,6 +80,9 @@ refusal_name refusals.LineTooLong = codes "line_too_long"
 refusal_name refusals.NotJson = codes "not_json"
 refusal_name (refusals.NotARequest field) = codes "not_a_request"
 refusal_name refusals.BadHash = codes "bad_hash"
+refusal_name refusals.TooManyHashes = codes "too_many_hashes"
+refusal_name refusals.BadDistance = codes "bad_distance"
+refusal_name refusals.BadNumber = codes "bad_number"
 refusal_name refusals.UnknownFile = codes "unknown_file"
 refusal_name refusals.SameFile = codes "same_file"
 refusal_name refusals.UnknownDecision = codes "unknown_decision"
@@ -88,6 +108,10 @@ reply_text (replies.Imported found) = imported_text found
 reply_text (replies.Decided decision) = decided_text decision
 reply_text (replies.Undone decision) = undone_text decision
 reply_text (replies.Relations relations) = relations_text relations
+reply_text (replies.Distance distance) = distance_text distance
+reply_text (replies.Searched counts) = searched_text counts
+reply_text (replies.Queues queues) = queues_text queues
+reply_text replies.Rebalanced = done_text
 reply_text (replies.Refused refusal) = refused_text refusal
 
 -- with its line feed

@@ -5,11 +5,16 @@
 #![tactic(auto)]
 
 mod asked_code;
+mod command_name;
+mod decisions;
+mod fields;
+mod import;
 mod laws;
 mod named_list;
 mod pieces;
 mod reply_size;
 mod request;
+mod searches;
 mod writing;
 
 pub use laws::{long_line_laws, refusal_laws, spelling_laws};

@@ -3,10 +3,12 @@
 ghost use Rattle.std.specs.Prelude.{◌≡◌, ◌++◌, ◌+◌, ◌-◌, ◌^◌, min, length, decimal};
 ghost use Rattle.std.specs.List.{flat_map};
 ghost use Rattle.media_base.specs.Names.{import_number};
-ghost use Rattle.command_text.specs.ReplyText.{imported_text, decided_text, undone_text, king_text, label_text, next_text, refusal_name, blamed_text, refused_text};
+ghost use Rattle.command_text.specs.ReplyText.{imported_text, decided_text, undone_text, distance_text, searched_text, queues_text, done_text, king_text, label_text, next_text, refusal_name, blamed_text, refused_text};
 
 use itoa::Buffer;
-use media_base::{DecisionNo, FileNo, ImportStatus, Imported, Refusal};
+use media_base::{
+    DecisionNo, FileNo, ImportStatus, Imported, QueueLengths, Refusal, SearchCounts, SearchDistance,
+};
 
 #[tactic(auto, unfolding(crate::specs::ReplyText::imported_text))]
 pub fn imported_pieces<'a>(found: &Imported, digits: &'a mut Buffer) -> [&'a [u8]; 5]
@@ -48,6 +50,59 @@ pub fn undone_pieces(decision: DecisionNo, digits: &mut Buffer) -> [&[u8]; 3]
     ensures { flat_map (λ piece. piece.now) result ≡ undone_text decision }
 {
     [b"{\"undone\":", digits.format(decision.0).as_bytes(), b"}"]
+}
+
+#[tactic(auto, unfolding(crate::specs::ReplyText::distance_text))]
+pub fn distance_pieces(distance: SearchDistance, digits: &mut Buffer) -> [&[u8]; 3]
+    ensures { flat_map (λ piece. piece.now) result ≡ distance_text distance }
+{
+    [
+        b"{\"distance\":",
+        digits.format(distance.bits()).as_bytes(),
+        b"}",
+    ]
+}
+
+#[tactic(auto, unfolding(crate::specs::ReplyText::searched_text))]
+pub fn searched_pieces<'a>(
+    counts: SearchCounts,
+    searched: &'a mut Buffer,
+    left: &'a mut Buffer,
+) -> [&'a [u8]; 5]
+    ensures { flat_map (λ piece. piece.now) result ≡ searched_text counts }
+{
+    [
+        b"{\"searched\":",
+        searched.format(counts.searched).as_bytes(),
+        b",\"left\":",
+        left.format(counts.left).as_bytes(),
+        b"}",
+    ]
+}
+
+#[tactic(auto, unfolding(crate::specs::ReplyText::queues_text))]
+pub fn queues_pieces<'a>(
+    queues: QueueLengths,
+    search: &'a mut Buffer,
+    display: &'a mut Buffer,
+) -> [&'a [u8]; 5]
+    ensures { flat_map (λ piece. piece.now) result ≡ queues_text queues }
+{
+    [
+        b"{\"search\":",
+        search.format(queues.search).as_bytes(),
+        b",\"display\":",
+        display.format(queues.display).as_bytes(),
+        b"}",
+    ]
+}
+
+/// The answer of a command that has nothing to tell.
+#[tactic(auto, unfolding(crate::specs::ReplyText::done_text))]
+pub fn done_pieces() -> [&'static [u8]; 1]
+    ensures { flat_map (λ piece. piece.now) result ≡ done_text }
+{
+    [b"{\"done\":true}"]
 }
 
 #[tactic(auto, unfolding(crate::specs::ReplyText::king_text))]
@@ -94,6 +149,9 @@ fn name_of(refusal: Refusal) -> &'static str
         Refusal::NotJson => "not_json",
         Refusal::NotARequest(_) => "not_a_request",
         Refusal::BadHash => "bad_hash",
+        Refusal::TooManyHashes => "too_many_hashes",
+        Refusal::BadDistance => "bad_distance",
+        Refusal::BadNumber => "bad_number",
         Refusal::UnknownFile => "unknown_file",
         Refusal::SameFile => "same_file",
         Refusal::UnknownDecision => "unknown_decision",

@@ -4,8 +4,8 @@ ghost use Rattle.command_text.specs.ReplyText.{following_text, files_text, list_
 
 use crate::named_list::{NamedList, named_lists};
 use crate::pieces::{
-    decided_pieces, following_pieces, imported_pieces, king_pieces, label_pieces, pieces_len,
-    refused_pieces, undone_pieces,
+    decided_pieces, distance_pieces, done_pieces, following_pieces, imported_pieces, king_pieces,
+    label_pieces, pieces_len, queues_pieces, refused_pieces, searched_pieces, undone_pieces,
 };
 use itoa::Buffer;
 use media_base::{FileNo, FileRelations, Reply};
@@ -16,11 +16,18 @@ pub fn reply_len(reply: &Reply) -> u64
     ensures { result ≡ min (length (reply_text reply.now)) (2 ^ 64 - 1) }
 {
     let mut digits = Buffer::new();
+    let mut second = Buffer::new();
     match reply {
         Reply::Imported(found) => pieces_len(&imported_pieces(found, &mut digits)),
         Reply::Decided(decision) => pieces_len(&decided_pieces(*decision, &mut digits)),
         Reply::Undone(decision) => pieces_len(&undone_pieces(*decision, &mut digits)),
         Reply::Relations(relations) => relations_len(relations),
+        Reply::Distance(distance) => pieces_len(&distance_pieces(*distance, &mut digits)),
+        Reply::Searched(counts) => {
+            pieces_len(&searched_pieces(*counts, &mut digits, &mut second))
+        }
+        Reply::Queues(queues) => pieces_len(&queues_pieces(*queues, &mut digits, &mut second)),
+        Reply::Rebalanced => pieces_len(&done_pieces()),
         Reply::Refused(refusal) => pieces_len(&refused_pieces(*refusal)),
     }
 }

@@ -6,8 +6,8 @@ ghost use Rattle.command_text.specs.ReplyText.{following_text, files_text, close
 
 use crate::named_list::{NamedList, named_lists};
 use crate::pieces::{
-    decided_pieces, following_pieces, imported_pieces, king_pieces, label_pieces, refused_pieces,
-    undone_pieces,
+    decided_pieces, distance_pieces, done_pieces, following_pieces, imported_pieces, king_pieces,
+    label_pieces, queues_pieces, refused_pieces, searched_pieces, undone_pieces,
 };
 use itoa::Buffer;
 use media_base::{Failed, FileNo, FileRelations, Gather, Reply, Sink};
@@ -55,11 +55,20 @@ fn put_reply<W: Sink>(reply: &Reply, gather: &mut Gather, sink: &mut W) -> Resul
         (reply_text reply.now) result }
 {
     let mut digits = Buffer::new();
+    let mut second = Buffer::new();
     match reply {
         Reply::Imported(found) => gather.put_all(&imported_pieces(found, &mut digits), sink),
         Reply::Decided(decision) => gather.put_all(&decided_pieces(*decision, &mut digits), sink),
         Reply::Undone(decision) => gather.put_all(&undone_pieces(*decision, &mut digits), sink),
         Reply::Relations(relations) => put_relations(relations, gather, sink),
+        Reply::Distance(distance) => gather.put_all(&distance_pieces(*distance, &mut digits), sink),
+        Reply::Searched(counts) => {
+            gather.put_all(&searched_pieces(*counts, &mut digits, &mut second), sink)
+        }
+        Reply::Queues(queues) => {
+            gather.put_all(&queues_pieces(*queues, &mut digits, &mut second), sink)
+        }
+        Reply::Rebalanced => gather.put_all(&done_pieces(), sink),
         Reply::Refused(refusal) => gather.put_all(&refused_pieces(*refusal), sink),
     }
 }

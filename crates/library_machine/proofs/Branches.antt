@@ -1,20 +1,23 @@
 -- The step's commands by what their tests say.
-use Rattle.std.proofs.Common.{◌≡◌, Bool, nat_lt, ◌==◌, ◌&&◌, not, if◌then◌else◌, [], ◌∷◌, ◌++◌, length, slice_get, refl}
+use Rattle.std.proofs.Common.{◌≡◌, ℕ, Bool, nat_lt, ◌==◌, ◌&&◌, not, if◌then◌else◌, [], ◌∷◌, ◌++◌, length, slice_get, refl}
+use Rattle.std.specs.List.{list_any}
 use Rattle.media_types.specs.declared.decision.Decision.{Decision}
 use Rattle.media_types.specs.declared.limits.TheConstants.{MAX_DECISIONS}
 use Rattle.media_types.specs.declared.new_file.NewFile.{NewFile}
 use Rattle.media_types.specs.declared.numbers.DecisionNo.{DecisionNo}
 use Rattle.media_types.specs.declared.numbers.FileNo.{FileNo}
+use Rattle.media_types.specs.declared.searching.Searching.{Searching}
 use Rattle.media_base.specs.declared.change.Change.TheVariants as changes
 use Rattle.media_base.specs.declared.refusal.Refusal.TheVariants as refusals
 use Rattle.media_base.specs.declared.reply.ImportStatus.TheVariants as imports
-use Rattle.media_base.specs.declared.reply.Reply.TheVariants.{Imported, Decided, Undone, Relations}
+use Rattle.media_base.specs.declared.reply.Reply.TheVariants.{Imported, Decided, Undone, Relations, Distance, Queues}
 use Rattle.file_records.specs.Rows.{row_of}
+use Rattle.file_records.specs.Searching.{rising}
 use Rattle.decision_book.specs.Recorded.{undone_at}
 use Rattle.decision_book.specs.Standing as book
 use Rattle.relation_groups.specs.Relations.{relations_at}
 use Rattle.library_machine.specs.Records.{Records}
-use Rattle.library_machine.specs.Step.{Outcome, told, refused, changed, has_file, decide, undo_at, undo, relations}
+use Rattle.library_machine.specs.Step.{Outcome, told, refused, changed, has_file, decide, undo_at, undo, relations, set_distance, search_queue, search_of, search, search_files, next_search, search_job, queues}
 
 -- a new file, where there is room or not
 abbrev pub import_by : Records → NewFile → Bool → Outcome
@@ -61,3 +64,37 @@ relations_by r file there =
 pub relations_is : (r : Records) (file : FileNo) → relations r file ≡ relations_by r file (has_file r file)
 unfolding relations
 relations_is r file = refl
+
+-- another distance, or the one that there is
+abbrev pub distance_by : Records → ℕ → Bool → Outcome
+distance_by r d same =
+    if same then told r (Distance d)
+    else changed (record r { distance = d }) (Distance d) (changes.Distance d)
+
+pub distance_is : (r : Records) (d : ℕ) → set_distance r d ≡ distance_by r d (r.distance == d)
+unfolding set_distance
+distance_is r d = refl
+
+pub search_is : (r : Records) (s : Searching) → search r s ≡ search_of r s (rising s.distance s.files r.files)
+unfolding search
+search_is r s = refl
+
+-- whether a file that is named isn't there
+abbrev pub is_missing : Records → Searching → Bool
+is_missing r s = list_any (λ file. not (has_file r file)) s.files
+
+-- a search of files, where one is missing or none
+abbrev pub search_files_by : Records → Searching → Bool → Outcome
+search_files_by r s missing = if missing then refused r refusals.UnknownFile else search r s
+
+pub search_files_is : (r : Records) (s : Searching) → search_files r s ≡ search_files_by r s (is_missing r s)
+unfolding search_files
+search_files_is r s = refl
+
+pub search_job_is : (r : Records) (n : ℕ) → search_job r n ≡ search r (next_search r n)
+unfolding search_job
+search_job_is r n = refl
+
+pub queues_is : (r : Records) → queues r ≡ told r (Queues (record { search = length (search_queue r); display = 0 }))
+unfolding queues
+queues_is r = refl

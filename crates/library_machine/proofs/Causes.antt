@@ -1,13 +1,15 @@
--- Exactly when the step gives each refusal.
-use Rattle.std.proofs.Common.{◌≡◌, ◌≢◌, ◌↔◌, ◌⊎◌, inl, inr, ◌≤◌, ℕ, Bool, true, false, nat_lt, ◌==◌, ◌&&◌, Option, Some, None, length, slice_get, refl, arith, ap, subst, sym, List}
+-- Exactly when the step gives each refusal, and which commands have none.
+use Rattle.std.proofs.Common.{◌≡◌, ◌≢◌, ◌↔◌, ◌⊎◌, inl, inr, ◌≤◌, ℕ, Bool, true, false, not, nat_lt, ◌==◌, ◌&&◌, Option, Some, None, length, slice_get, refl, arith, ap, subst, sym, List, [], ◌∷◌}
+use Rattle.std.specs.List.{All}
 use Rattle.std.proofs.lemmas.Option.{slice_get_cases, slice_get_past}
-use Rattle.std.proofs.lemmas.Bool.{ltb-true, ltb-false, lt-ltb, eqb-true, eqb-false, and_parts, and_cases}
+use Rattle.std.proofs.lemmas.Bool.{ltb-true, ltb-false, lt-ltb, eqb-true, eqb-false, and_parts, and_cases, not-false, not_from_true, false_from_ne_true, both_ways}
+use Rattle.std.proofs.lemmas.List.Folds.{list_any_at, list_any_none}
 use Rattle.media_types.specs.declared.decision.Decision.{Decision}
-use Rattle.media_types.specs.declared.hash.Sha.{Sha}
 use Rattle.media_types.specs.declared.limits.TheConstants.{MAX_DECISIONS, MAX_FILES}
 use Rattle.media_types.specs.declared.new_file.NewFile.{NewFile}
 use Rattle.media_types.specs.declared.numbers.DecisionNo.{DecisionNo}
 use Rattle.media_types.specs.declared.numbers.FileNo.{FileNo}
+use Rattle.media_types.specs.declared.searching.Searching.{Searching}
 use Rattle.media_base.specs.declared.command.Caller.{Caller}
 use Rattle.media_base.specs.declared.command.Caller.TheVariants.{Console}
 use Rattle.media_base.specs.declared.command.Command.{Command}
@@ -15,17 +17,13 @@ use Rattle.media_base.specs.declared.command.Command.TheVariants as commands
 use Rattle.media_base.specs.declared.refusal.Refusal.{Refusal}
 use Rattle.media_base.specs.declared.refusal.Refusal.TheVariants as refusals
 use Rattle.media_base.specs.declared.reply.Reply.TheVariants.{Refused}
-use Rattle.file_records.specs.declared.file_row.FileRow.{FileRow}
 use Rattle.library_machine.specs.Records.{Records, IsThere, IsNew, IsRecorded, IsFullOfFiles, IsFullOfDecisions}
-use Rattle.library_machine.specs.Laws.{NeverLacks, RefusesImports, RefusesDecisions, RefusesUndoing, RefusesRelations}
-use Rattle.file_records.specs.Lookup.{IsUnknown, file_with}
+use Rattle.library_machine.specs.Laws.{RefusesImports, RefusesDecisions, RefusesUndoing, RefusesRelations, RefusesSearches, IsNeverRefused}
+use Rattle.file_records.specs.Lookup.{file_with}
 use Rattle.decision_book.specs.declared.decision_row.DecisionRow.{DecisionRow}
-use Rattle.library_machine.specs.Step.{Outcome, import_at, import, step, has_file, undo_at}
-use Rattle.library_machine.proofs.Branches.{import_by, decide_by, decide_is, undo_by, undo_is, relations_by, relations_is}
-
--- what the file records say of a file that isn't found
-abbrev NotFound : Type 0
-NotFound = (sha : Sha) (files : List FileRow) → (file_with sha files ≡ None) ↔ IsUnknown sha files
+use Rattle.library_machine.specs.Step.{Outcome, import_at, import, step, has_file, undo_at, search_of, search, next_search}
+use Rattle.library_machine.proofs.Below.{NotFound}
+use Rattle.library_machine.proofs.Branches.{import_by, decide_by, decide_is, undo_by, undo_is, relations_by, relations_is, distance_by, distance_is, search_is, is_missing, search_files_by, search_files_is, search_job_is, queues_is}
 
 -- what `RefusesImports` says, of the outcome that an import has
 abbrev RefusesAsImport : Records → NewFile → Outcome → Type 0
@@ -194,51 +192,84 @@ refuses_undoing r Console n =
     let all = subst (RefusesAsUndoing r n) (sym (undo_is r n)) (undo_refused r n _ refl) in
     record { unknown_decision = all.0; already_undone = all.1; no_other = all.2 }
 
--- ---- a refusal that no command has
+-- ---- searches
 
--- the reasons of the step
-abbrev IsReason : Refusal → Type 0
-IsReason why =
-    (why ≡ refusals.FullFiles) ⊎ (why ≡ refusals.UnknownFile) ⊎ (why ≡ refusals.SameFile) ⊎ (why ≡ refusals.FullDecisions)
-    ⊎ (why ≡ refusals.UnknownDecision) ⊎ (why ≡ refusals.AlreadyUndone)
+-- no file is missing where all are there, and only then
+pub none_missing : (r : Records) (s : Searching) → All (IsThere r) s.files → is_missing r s ≡ false
+none_missing r s there =
+    list_any_none (λ file. not (has_file r file)) s.files (λ k d lt. not_from_true _ (there_is r _ (there k d lt)))
 
-reasons : NotFound → (r : Records) (caller : Caller) (command : Command) (why : Refusal) → (step r caller command).reply ≡ Refused why → IsReason why
-reasons not_found r caller (commands.Import file) why e = inl ((refuses_imports not_found r caller file).no_other why e)
-reasons not_found r caller (commands.Decide d) why e =
-    elim ((refuses_decisions r caller d).no_other why e) [ inl one ↦ inr (inl one) | inr (inl one) ↦ inr (inr (inl one)) | inr (inr one) ↦ inr (inr (inr (inl one))) ]
-reasons not_found r caller (commands.Undo n) why e =
-    elim ((refuses_undoing r caller n).no_other why e) [ inl one ↦ inr (inr (inr (inr (inl one)))) | inr one ↦ inr (inr (inr (inr (inr one)))) ]
-reasons not_found r caller (commands.Relations file) why e = inr (inl ((refuses_relations r caller file).no_other why e))
+all_there : (r : Records) (s : Searching) → is_missing r s ≡ false → All (IsThere r) s.files
+all_there r s none k d lt =
+    let Missing : FileNo → Bool = λ file. not (has_file r file) in
+    let is = false_from_ne_true _ (λ e. both_ways _ none (list_any_at Missing s.files k d lt e)) in
+    ltb-true _ _ (not-false _ is)
 
-not_memory : IsReason refusals.NoMemory → ⊥
-not_memory (inl e) = cc
-not_memory (inr (inl e)) = cc
-not_memory (inr (inr (inl e))) = cc
-not_memory (inr (inr (inr (inl e)))) = cc
-not_memory (inr (inr (inr (inr (inl e))))) = cc
-not_memory (inr (inr (inr (inr (inr e))))) = cc
+abbrev IsNoRefusal : Outcome → Type 0
+IsNoRefusal o = (why : Refusal) → ¬ (o.reply ≡ Refused why)
 
-not_full : IsReason refusals.JournalFull → ⊥
-not_full (inl e) = cc
-not_full (inr (inl e)) = cc
-not_full (inr (inr (inl e))) = cc
-not_full (inr (inr (inr (inl e)))) = cc
-not_full (inr (inr (inr (inr (inl e))))) = cc
-not_full (inr (inr (inr (inr (inr e))))) = cc
+search_by_no_refusal : (r : Records) (s : Searching) (risen : List FileNo) → IsNoRefusal (search_of r s risen)
+search_by_no_refusal r s [] why e = cc
+search_by_no_refusal r s (file ∷ risen) why e = cc
 
-not_unkept : IsReason refusals.NotKept → ⊥
-not_unkept (inl e) = cc
-not_unkept (inr (inl e)) = cc
-not_unkept (inr (inr (inl e))) = cc
-not_unkept (inr (inr (inr (inl e)))) = cc
-not_unkept (inr (inr (inr (inr (inl e))))) = cc
-not_unkept (inr (inr (inr (inr (inr e))))) = cc
+search_no_refusal : (r : Records) (s : Searching) → IsNoRefusal (search r s)
+search_no_refusal r s = subst IsNoRefusal (sym (search_is r s)) (search_by_no_refusal r s _)
 
-pub never_no_memory : NotFound → NeverLacks refusals.NoMemory
-never_no_memory not_found = record { never = λ r caller command e. not_memory (reasons not_found r caller command _ e) }
+-- what `RefusesSearches` says, of the outcome that a search has
+abbrev RefusesAsSearch : Records → Searching → Outcome → Type 0
+RefusesAsSearch r s o =
+    ((o.reply ≡ Refused refusals.UnknownFile) ↔ (¬ (All (IsThere r) s.files)))
+    × ((why : Refusal) → o.reply ≡ Refused why → why ≡ refusals.UnknownFile)
 
-pub never_full : NotFound → NeverLacks refusals.JournalFull
-never_full not_found = record { never = λ r caller command e. not_full (reasons not_found r caller command _ e) }
+search_refused : (r : Records) (s : Searching) (missing : Bool) → is_missing r s ≡ missing → RefusesAsSearch r s (search_files_by r s missing)
+search_refused r s true is = (
+  (λ e all. both_ways _ (none_missing r s all) is, λ m. refl),
+  λ why e. cc,
+)
+search_refused r s false is = (
+  (λ e. absurd (search_no_refusal r s _ e), λ m. absurd (m (all_there r s is))),
+  λ why e. absurd (search_no_refusal r s why e),
+)
 
-pub never_unkept : NotFound → NeverLacks refusals.NotKept
-never_unkept not_found = record { never = λ r caller command e. not_unkept (reasons not_found r caller command _ e) }
+pub refuses_searches : (r : Records) (caller : Caller) (s : Searching) → RefusesSearches r caller s
+unfolding step
+refuses_searches r Console s =
+    let both = subst (RefusesAsSearch r s) (sym (search_files_is r s)) (search_refused r s _ refl) in
+    record { unknown_file = both.0; no_other = both.1 }
+
+-- ---- commands that are never refused
+
+distance_no_refusal : (r : Records) (d : ℕ) (same : Bool) → IsNoRefusal (distance_by r d same)
+distance_no_refusal r d true why e = cc
+distance_no_refusal r d false why e = cc
+
+abbrev HasNoRefusal : Command → Type 0
+HasNoRefusal command = (r : Records) (caller : Caller) → IsNoRefusal (step r caller command)
+
+distances_pass : (d : ℕ) → HasNoRefusal (commands.SearchDistance d)
+unfolding step
+distances_pass d r Console = subst IsNoRefusal (sym (distance_is r d)) (distance_no_refusal r d _)
+
+jobs_pass : (n : ℕ) → HasNoRefusal (commands.SearchJob n)
+unfolding step
+jobs_pass n r Console = subst IsNoRefusal (sym (search_job_is r n)) (search_no_refusal r (next_search r n))
+
+queues_pass : HasNoRefusal commands.Queues
+unfolding step
+queues_pass r Console = subst IsNoRefusal (sym (queues_is r)) (λ why e. cc)
+
+rebalancing_passes : HasNoRefusal commands.RebalanceJob
+unfolding step
+rebalancing_passes r Console why e = cc
+
+pub never_refused_distances : (d : ℕ) → IsNeverRefused (commands.SearchDistance d)
+never_refused_distances d = record { never = distances_pass d }
+
+pub never_refused_jobs : (n : ℕ) → IsNeverRefused (commands.SearchJob n)
+never_refused_jobs n = record { never = jobs_pass n }
+
+pub never_refused_queues : IsNeverRefused commands.Queues
+never_refused_queues = record { never = queues_pass }
+
+pub never_refused_rebalancing : IsNeverRefused commands.RebalanceJob
+never_refused_rebalancing = record { never = rebalancing_passes }

@@ -1,10 +1,13 @@
 -- A step's change is told exactly where the records change, and leads to the same records.
-use Rattle.std.proofs.Common.{◌≡◌, ◌↔◌, ℕ, zero, suc, Bool, true, false, Option, Some, None, option_map, List, [], ◌∷◌, ◌++◌, length, length-append, slice_get, refl, arith, ap, subst, sym, ◌∙◌}
+use Rattle.std.proofs.Common.{◌≡◌, ◌↔◌, ◌==◌, ℕ, zero, suc, Bool, true, false, Option, Some, None, option_map, List, [], ◌∷◌, ◌++◌, length, length-append, slice_get, refl, arith, ap, subst, sym, ◌∙◌}
+use Rattle.std.proofs.lemmas.Bool.{eqb-false}
 use Rattle.std.proofs.lemmas.Option.{same_Some}
+use Rattle.std.proofs.lemmas.List.Elements.{All-take}
 use Rattle.media_types.specs.declared.decision.Decision.{Decision}
 use Rattle.media_types.specs.declared.new_file.NewFile.{NewFile}
 use Rattle.media_types.specs.declared.numbers.DecisionNo.{DecisionNo}
 use Rattle.media_types.specs.declared.numbers.FileNo.{FileNo}
+use Rattle.media_types.specs.declared.searching.Searching.{Searching}
 use Rattle.media_base.specs.declared.change.Change.{Change}
 use Rattle.media_base.specs.declared.command.Caller.TheVariants.{Console}
 use Rattle.media_base.specs.declared.command.Command.{Command}
@@ -12,11 +15,14 @@ use Rattle.media_base.specs.declared.command.Command.TheVariants as commands
 use Rattle.decision_book.specs.declared.decision_row.DecisionRow.{DecisionRow}
 use Rattle.decision_book.specs.Recorded.{undone_at, undone}
 use Rattle.file_records.specs.Lookup.{file_with}
+use Rattle.file_records.specs.Searching.{rising}
 use Rattle.library_machine.specs.Changes.{command_of, if_changed}
 use Rattle.library_machine.specs.Laws.{ChangesAreTold, ChangesLead}
-use Rattle.library_machine.specs.Records.{Records}
-use Rattle.library_machine.specs.Step.{Outcome, import_at, import, step, undo_at}
-use Rattle.library_machine.proofs.Branches.{import_by, decide_by, decide_is, undo_by, undo_is, relations_by, relations_is}
+use Rattle.library_machine.specs.Records.{Records, IsThere}
+use Rattle.library_machine.specs.Step.{Outcome, import_at, import, step, undo_at, search_queue, search_of, search, search_files, next_search, search_job}
+use Rattle.library_machine.proofs.Below.{NoneRises, QueueIsThere}
+use Rattle.library_machine.proofs.Branches.{import_by, decide_by, decide_is, undo_by, undo_is, relations_by, relations_is, distance_by, distance_is, search_is, search_files_by, search_files_is, search_job_is, queues_is}
+use Rattle.library_machine.proofs.Causes.{none_missing}
 
 -- ---- told exactly where the records change
 
@@ -64,14 +70,48 @@ relations_tell : (r : Records) (file : FileNo) (there : Bool) → TellsChange r 
 relations_tell r file true = (λ e. refl, λ same. refl)
 relations_tell r file false = (λ e. refl, λ same. refl)
 
-pub changes_are_told : ChangesAreTold
-unfolding step import
-changes_are_told r Console (commands.Import file) = import_tells r file (file_with file.sha r.files)
-changes_are_told r Console (commands.Decide d) = subst (TellsChange r) (sym (decide_is r d)) (decision_tells r d _ _ _)
-changes_are_told r Console (commands.Undo n) = subst (TellsChange r) (sym (undo_is r n)) (undo_tells r n _ refl)
-changes_are_told r Console (commands.Relations file) = subst (TellsChange r) (sym (relations_is r file)) (relations_tell r file _)
+distance_tells : (r : Records) (d : ℕ) (same : Bool) → (r.distance == d) ≡ same → TellsChange r (distance_by r d same)
+distance_tells r d true is = (λ e. refl, λ same. refl)
+distance_tells r d false is = (
+  λ e. absurd (cc),
+  λ same. absurd (eqb-false _ _ is (sym (ap (λ (s : Records). s.distance) same))),
+)
 
--- ---- the change of a command is that of the same command
+search_by_tells : NoneRises → (r : Records) (s : Searching) (risen : List FileNo) →
+    rising s.distance s.files r.files ≡ risen → TellsChange r (search_of r s risen)
+search_by_tells none_rises r s [] is = (λ e. refl, λ same. refl)
+search_by_tells none_rises r s (file ∷ risen) is = (
+  λ e. absurd (cc),
+  λ same.
+      let files = ap (λ (s : Records). s.files) same in
+      let none = (none_rises s.distance s.files r.files).1 files in
+      absurd (cc (none, is)),
+)
+
+search_tells : NoneRises → (r : Records) (s : Searching) → TellsChange r (search r s)
+search_tells none_rises r s = subst (TellsChange r) (sym (search_is r s)) (search_by_tells none_rises r s _ refl)
+
+search_files_tell : NoneRises → (r : Records) (s : Searching) (missing : Bool) → TellsChange r (search_files_by r s missing)
+search_files_tell none_rises r s true = (λ e. refl, λ same. refl)
+search_files_tell none_rises r s false = search_tells none_rises r s
+
+pub changes_are_told : NoneRises → ChangesAreTold
+unfolding step import
+changes_are_told none_rises r Console (commands.Import file) = import_tells r file (file_with file.sha r.files)
+changes_are_told none_rises r Console (commands.Decide d) = subst (TellsChange r) (sym (decide_is r d)) (decision_tells r d _ _ _)
+changes_are_told none_rises r Console (commands.Undo n) = subst (TellsChange r) (sym (undo_is r n)) (undo_tells r n _ refl)
+changes_are_told none_rises r Console (commands.Relations file) = subst (TellsChange r) (sym (relations_is r file)) (relations_tell r file _)
+changes_are_told none_rises r Console (commands.SearchDistance d) =
+    subst (TellsChange r) (sym (distance_is r d)) (distance_tells r d _ refl)
+changes_are_told none_rises r Console (commands.SearchJob n) =
+    subst (TellsChange r) (sym (search_job_is r n)) (search_tells none_rises r (next_search r n))
+changes_are_told none_rises r Console (commands.SearchFiles s) =
+    subst (TellsChange r) (sym (search_files_is r s)) (search_files_tell none_rises r s _)
+changes_are_told none_rises r Console commands.Queues =
+    subst (TellsChange r) (sym (queues_is r)) (λ e. refl, λ same. refl)
+changes_are_told none_rises r Console commands.RebalanceJob = (λ e. refl, λ same. refl)
+
+-- ---- the change stands for the same command
 
 abbrev IsOwn : Command → Outcome → Type 0
 IsOwn command o = (change : Change) → o.change ≡ Some change → command_of change ≡ command
@@ -102,18 +142,58 @@ relations_own : (r : Records) (file : FileNo) (there : Bool) → IsOwn (commands
 relations_own r file true change e = absurd (cc)
 relations_own r file false change e = absurd (cc)
 
-own : (r : Records) (command : Command) → IsOwn command (step r Console command)
+distance_own : (r : Records) (d : ℕ) (same : Bool) → IsOwn (commands.SearchDistance d) (distance_by r d same)
+distance_own r d true change e = absurd (cc)
+distance_own r d false change e = ap command_of (sym (same_Some _ _ e))
+
+search_by_own : (r : Records) (s : Searching) (risen : List FileNo) → IsOwn (commands.SearchFiles s) (search_of r s risen)
+search_by_own r s [] change e = absurd (cc)
+search_by_own r s (file ∷ risen) change e = ap command_of (sym (same_Some _ _ e))
+
+search_own : (r : Records) (s : Searching) → IsOwn (commands.SearchFiles s) (search r s)
+search_own r s = subst (IsOwn (commands.SearchFiles s)) (sym (search_is r s)) (search_by_own r s _)
+
+search_files_own : (r : Records) (s : Searching) (missing : Bool) → IsOwn (commands.SearchFiles s) (search_files_by r s missing)
+search_files_own r s true change e = absurd (cc)
+search_files_own r s false change e = search_own r s change e
+
+-- the command that the change stands for: a search of the next files names them
+abbrev as_named : Records → Command → Command
+as_named r (commands.SearchJob n) = commands.SearchFiles (next_search r n)
+as_named r command = command
+
+own : (r : Records) (command : Command) → IsOwn (as_named r command) (step r Console command)
 unfolding step import
 own r (commands.Import file) = import_own r file (file_with file.sha r.files)
 own r (commands.Decide d) = subst (IsOwn (commands.Decide d)) (sym (decide_is r d)) (decision_own r d _ _ _)
 own r (commands.Undo n) = subst (IsOwn (commands.Undo n)) (sym (undo_is r n)) (undo_own r n _)
 own r (commands.Relations file) = subst (IsOwn (commands.Relations file)) (sym (relations_is r file)) (relations_own r file _)
+own r (commands.SearchDistance d) = subst (IsOwn (commands.SearchDistance d)) (sym (distance_is r d)) (distance_own r d _)
+own r (commands.SearchJob n) =
+    subst (IsOwn (commands.SearchFiles (next_search r n))) (sym (search_job_is r n)) (search_own r (next_search r n))
+own r (commands.SearchFiles s) = subst (IsOwn (commands.SearchFiles s)) (sym (search_files_is r s)) (search_files_own r s _)
+own r commands.Queues = subst (IsOwn commands.Queues) (sym (queues_is r)) (λ change e. absurd (cc))
+own r commands.RebalanceJob = λ change e. absurd (cc)
+
+-- ---- the change leads to the records of the step
+
+-- the next files of the queue are there, so a search that names them isn't refused
+same_search : QueueIsThere → (r : Records) (n : ℕ) → search_files r (next_search r n) ≡ search_job r n
+same_search queue_is_there r n =
+    let s = next_search r n in
+    let there = All-take (IsThere r) n (search_queue r) (queue_is_there r.distance r.files) in
+    search_files_is r s ∙ ap (search_files_by r s) (none_missing r s there) ∙ sym (search_job_is r n)
+
+same_outcome : QueueIsThere → (r : Records) (command : Command) → step r Console (as_named r command) ≡ step r Console command
+unfolding step
+same_outcome queue_is_there r (commands.SearchJob n) = same_search queue_is_there r n
+same_outcome queue_is_there r command = refl
 
 -- the outcome's records, where it has a change
 lead_on : (o : Outcome) (change : Change) → o.change ≡ Some change → if_changed o.records o.change ≡ Some o.records
 lead_on o change e = ap (if_changed o.records) e
 
-pub changes_lead : ChangesLead
-changes_lead r Console command change e =
-    ap (λ (c : Command). let o = step r Console c in if_changed o.records o.change) (own r command change e)
-    ∙ lead_on (step r Console command) change e
+pub changes_lead : QueueIsThere → ChangesLead
+changes_lead queue_is_there r Console command change e =
+    let same = ap (step r Console) (own r command change e) ∙ same_outcome queue_is_there r command in
+    ap (λ (o : Outcome). if_changed o.records o.change) same ∙ lead_on (step r Console command) change e

@@ -1,9 +1,10 @@
 -- A refused command leaves the records as they were.
-use Rattle.std.proofs.Common.{◌≡◌, ℕ, Bool, true, false, Option, Some, None, refl, subst, sym, ◌∙◌}
+use Rattle.std.proofs.Common.{◌≡◌, ℕ, Bool, true, false, Option, Some, None, List, [], ◌∷◌, refl, subst, sym, ◌∙◌}
 use Rattle.media_types.specs.declared.decision.Decision.{Decision}
 use Rattle.media_types.specs.declared.new_file.NewFile.{NewFile}
 use Rattle.media_types.specs.declared.numbers.DecisionNo.{DecisionNo}
 use Rattle.media_types.specs.declared.numbers.FileNo.{FileNo}
+use Rattle.media_types.specs.declared.searching.Searching.{Searching}
 use Rattle.media_base.specs.declared.command.Caller.TheVariants.{Console}
 use Rattle.media_base.specs.declared.command.Command.TheVariants as commands
 use Rattle.media_base.specs.declared.refusal.Refusal.{Refusal}
@@ -12,8 +13,8 @@ use Rattle.decision_book.specs.declared.decision_row.DecisionRow.{DecisionRow}
 use Rattle.library_machine.specs.Laws.{RefusalsChangeNothing, RefusedAnswersChangeNothing}
 use Rattle.library_machine.specs.Records.{Records}
 use Rattle.file_records.specs.Lookup.{file_with}
-use Rattle.library_machine.specs.Step.{Outcome, step, import, import_at, undo_at, by_step, no_memory, journal_full, not_kept}
-use Rattle.library_machine.proofs.Branches.{import_by, decide_by, decide_is, undo_by, undo_is, relations_by, relations_is}
+use Rattle.library_machine.specs.Step.{Outcome, step, import, import_at, undo_at, search_of, search, next_search, by_step, no_memory, journal_full, not_kept}
+use Rattle.library_machine.proofs.Branches.{import_by, decide_by, decide_is, undo_by, undo_is, relations_by, relations_is, distance_by, distance_is, search_is, search_files_by, search_files_is, search_job_is, queues_is}
 
 -- where the outcome is a refusal, its records are these
 abbrev KeepsIfRefused : Records → Outcome → Type 0
@@ -45,6 +46,21 @@ relations_keep : (r : Records) (file : FileNo) (there : Bool) → KeepsIfRefused
 relations_keep r file true why e = refl
 relations_keep r file false why e = refl
 
+distance_keeps : (r : Records) (d : ℕ) (same : Bool) → KeepsIfRefused r (distance_by r d same)
+distance_keeps r d true why e = refl
+distance_keeps r d false why e = absurd (cc)
+
+search_by_keeps : (r : Records) (s : Searching) (risen : List FileNo) → KeepsIfRefused r (search_of r s risen)
+search_by_keeps r s [] why e = refl
+search_by_keeps r s (file ∷ risen) why e = absurd (cc)
+
+search_keeps : (r : Records) (s : Searching) → KeepsIfRefused r (search r s)
+search_keeps r s = subst (KeepsIfRefused r) (sym (search_is r s)) (search_by_keeps r s _)
+
+search_files_keep : (r : Records) (s : Searching) (missing : Bool) → KeepsIfRefused r (search_files_by r s missing)
+search_files_keep r s true why e = refl
+search_files_keep r s false why e = search_keeps r s why e
+
 pub refusals_change_nothing : RefusalsChangeNothing
 unfolding step import
 refusals_change_nothing r Console (commands.Import file) = import_keeps r file (file_with file.sha r.files)
@@ -54,6 +70,14 @@ refusals_change_nothing r Console (commands.Undo n) =
     subst (KeepsIfRefused r) (sym (undo_is r n)) (undo_keeps r n _)
 refusals_change_nothing r Console (commands.Relations file) =
     subst (KeepsIfRefused r) (sym (relations_is r file)) (relations_keep r file _)
+refusals_change_nothing r Console (commands.SearchDistance d) =
+    subst (KeepsIfRefused r) (sym (distance_is r d)) (distance_keeps r d _)
+refusals_change_nothing r Console (commands.SearchJob n) =
+    subst (KeepsIfRefused r) (sym (search_job_is r n)) (search_keeps r (next_search r n))
+refusals_change_nothing r Console (commands.SearchFiles s) =
+    subst (KeepsIfRefused r) (sym (search_files_is r s)) (search_files_keep r s _)
+refusals_change_nothing r Console commands.Queues = subst (KeepsIfRefused r) (sym (queues_is r)) (λ why e. refl)
+refusals_change_nothing r Console commands.RebalanceJob = λ why e. refl
 
 pub refused_answers_change_nothing : RefusedAnswersChangeNothing
 refused_answers_change_nothing r caller command why after (by_step reply records) =

@@ -26,6 +26,8 @@ abbrev pub command_of : Change → Command
 command_of (changes.File file) = commands.Import file
 command_of (changes.Decision decision) = commands.Decide decision
 command_of (changes.Undo n) = commands.Undo n
+command_of (changes.Distance d) = commands.SearchDistance d
+command_of (changes.Searched s) = commands.SearchFiles s
 
 -- the records of an outcome, where it changes them
 abbrev pub if_changed : Records → Option Change → Option Records

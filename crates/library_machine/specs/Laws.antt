@@ -1,9 +1,10 @@
 -- What holds of each step of the machine.
-use Rattle.std.specs.Prelude.{◌≡◌, ◌≢◌, ◌≤◌, ◌↔◌, ◌⊎◌, Some, None, true, length}
+use Rattle.std.specs.Prelude.{◌≡◌, ◌≢◌, ◌≤◌, ◌↔◌, ◌⊎◌, Some, None, true, All, length}
 use Rattle.media_types.specs.declared.decision.Decision.{Decision}
 use Rattle.media_types.specs.declared.new_file.NewFile.{NewFile}
 use Rattle.media_types.specs.declared.numbers.DecisionNo.{DecisionNo}
 use Rattle.media_types.specs.declared.numbers.FileNo.{FileNo}
+use Rattle.media_types.specs.declared.searching.Searching.{Searching}
 use Rattle.media_base.specs.declared.change.Change.{Change}
 use Rattle.media_base.specs.declared.command.Caller.{Caller}
 use Rattle.media_base.specs.declared.command.Command.{Command}
@@ -34,6 +35,11 @@ pub record NeverLacks (why : Refusal) : Type 0 where
 abbrev pub ChangesAreTold : Type 0
 ChangesAreTold = (r : Records) (caller : Caller) (command : Command) →
     ((step r caller command).change ≡ None) ↔ ((step r caller command).records ≡ r)
+
+-- that a change wasn't kept is answered only where the step has one
+pub record WantsChange (why : Refusal) : Type 0 where
+  pub changes : (r : Records) (caller : Caller) (command : Command) (after : Records) →
+      Answered r caller command (Refused why) after → (step r caller command).change ≢ None
 
 -- the change of a step leads to the records of the step
 abbrev pub ChangesLead : Type 0
@@ -80,3 +86,12 @@ pub record RefusesUndoing (r : Records) (caller : Caller) (n : DecisionNo) : Typ
 pub record RefusesRelations (r : Records) (caller : Caller) (file : FileNo) : Type 0 where
   pub unknown_file : Refuses r caller (commands.Relations file) refusals.UnknownFile ↔ (¬ IsThere r file)
   pub no_other : (why : Refusal) → Refuses r caller (commands.Relations file) why → why ≡ refusals.UnknownFile
+
+-- Why a search of files is refused: one of them isn't there.
+pub record RefusesSearches (r : Records) (caller : Caller) (s : Searching) : Type 0 where
+  pub unknown_file : Refuses r caller (commands.SearchFiles s) refusals.UnknownFile ↔ (¬ (All (IsThere r) s.files))
+  pub no_other : (why : Refusal) → Refuses r caller (commands.SearchFiles s) why → why ≡ refusals.UnknownFile
+
+-- The command is never refused.
+pub record IsNeverRefused (command : Command) : Type 0 where
+  pub never : (r : Records) (caller : Caller) (why : Refusal) → ¬ (Refuses r caller command why)

@@ -7,6 +7,7 @@ pub mod Worked
 pub use Rattle.media_base.specs.Names
 pub use Rattle.file_records.specs.Lookup
 pub use Rattle.file_records.specs.Rows
+pub use Rattle.file_records.specs.Searching
 pub use Rattle.decision_book.specs.Recorded
 pub use Rattle.decision_book.specs.Standing
 pub use Rattle.relation_groups.specs.Relations

@@ -1,7 +1,7 @@
 -- What a library records, and nothing else. All that it tells is computed from these lists.
-use Rattle.std.specs.Prelude.{◌≡◌, ◌<◌, ◌≤◌, Bool, List, [], length, map, Some, slice_get}
+use Rattle.std.specs.Prelude.{◌≡◌, ◌<◌, ◌≤◌, ℕ, Bool, List, [], length, map, Some, slice_get}
 use Rattle.media_types.specs.declared.hash.Sha.{Sha}
-use Rattle.media_types.specs.declared.limits.TheConstants.{MAX_DECISIONS, MAX_FILES}
+use Rattle.media_types.specs.declared.limits.TheConstants.{FIRST_DISTANCE, MAX_DECISIONS, MAX_FILES}
 use Rattle.media_types.specs.declared.numbers.DecisionNo.{DecisionNo}
 use Rattle.media_types.specs.declared.numbers.FileNo.{FileNo}
 use Rattle.file_records.specs.declared.file_row.FileRow.{FileRow}
@@ -16,9 +16,11 @@ pub record Records : Type 0 where
   pub files : List FileRow
   -- in order of recording
   pub decisions : List DecisionRow
+  -- within which files are searched for their duplicates
+  pub distance : ℕ
 
 abbrev pub no_records : Records
-no_records = record { files = []; decisions = [] }
+no_records = record { files = []; decisions = []; distance = FIRST_DISTANCE }
 
 -- What records of every session are: within the limits, with no two files of one SHA-256, and each
 -- decision is of two different files that are there.

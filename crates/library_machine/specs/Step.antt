@@ -1,10 +1,12 @@
 -- The machine: what one command answers, and what is recorded after it.
-use Rattle.std.specs.Prelude.{◌≡◌, ℕ, Bool, ◌==◌, ◌&&◌, not, if◌then◌else◌, [], ◌∷◌, ◌++◌, length, nat_lt, Option, Some, None, IsSome, slice_get}
+use Rattle.std.specs.Prelude.{◌≡◌, ℕ, Bool, ◌==◌, ◌&&◌, not, if◌then◌else◌, List, [], ◌∷◌, ◌++◌, length, take, nat_lt, Option, Some, None, IsSome, slice_get}
+use Rattle.std.specs.List.{list_any}
 use Rattle.media_types.specs.declared.decision.Decision.{Decision}
 use Rattle.media_types.specs.declared.limits.TheConstants.{MAX_DECISIONS, MAX_FILES}
 use Rattle.media_types.specs.declared.new_file.NewFile.{NewFile}
 use Rattle.media_types.specs.declared.numbers.DecisionNo.{DecisionNo}
 use Rattle.media_types.specs.declared.numbers.FileNo.{FileNo}
+use Rattle.media_types.specs.declared.searching.Searching.{Searching}
 use Rattle.media_base.specs.declared.change.Change.{Change}
 use Rattle.media_base.specs.declared.change.Change.TheVariants as changes
 use Rattle.media_base.specs.declared.command.Caller.{Caller}
@@ -18,6 +20,7 @@ use Rattle.media_base.specs.declared.reply.Reply.{Reply}
 use Rattle.media_base.specs.declared.reply.Reply.TheVariants as replies
 use Rattle.file_records.specs.Lookup.{file_with}
 use Rattle.file_records.specs.Rows.{row_of}
+use Rattle.file_records.specs.Searching.{queue_of, rising, searched}
 use Rattle.decision_book.specs.declared.decision_row.DecisionRow.{DecisionRow}
 use Rattle.decision_book.specs.Recorded.{undone_at}
 use Rattle.decision_book.specs.Standing as book
@@ -87,11 +90,62 @@ relations r file =
     told r (replies.Relations (relations_at (length r.files) (book.standing r.decisions) file))
     else refused r refusals.UnknownFile
 
+-- the files that are to be searched, ascending
+abbrev pub search_queue : Records → List FileNo
+search_queue r = queue_of r.distance r.files
+
+-- Files are searched within another distance from now on. How far each was searched stays.
+unfoldable pub set_distance : Records → ℕ → Outcome
+set_distance r d =
+    if r.distance == d then told r (replies.Distance d)
+    else changed (record r { distance = d }) (replies.Distance d) (changes.Distance d)
+
+-- what a search tells: how many files were searched further than before, and how many wait after it
+abbrev pub counts : List FileNo → Records → Reply
+counts risen after = replies.Searched (record { searched = length risen; left = length (search_queue after) })
+
+-- the files, once the named ones are searched
+abbrev pub after_search : Records → Searching → Records
+after_search r s = record r { files = searched s.distance s.files r.files }
+
+-- A search of files that are there, by the files whose searched distance rises; where none does, it changes
+-- nothing.
+abbrev pub search_of : Records → Searching → List FileNo → Outcome
+search_of r s [] = told r (counts [] r)
+search_of r s (file ∷ risen) =
+    changed (after_search r s) (counts (file ∷ risen) (after_search r s)) (changes.Searched s)
+
+unfoldable pub search : Records → Searching → Outcome
+search r s = search_of r s (rising s.distance s.files r.files)
+
+-- The files that are named are searched, where all are there.
+unfoldable pub search_files : Records → Searching → Outcome
+search_files r s =
+    if list_any (λ file. not (has_file r file)) s.files then refused r refusals.UnknownFile
+    else search r s
+
+-- the next files of the queue, at most so many
+abbrev pub next_search : Records → ℕ → Searching
+next_search r n = record { files = take n (search_queue r); distance = r.distance }
+
+-- The next files of the queue are searched within the library's distance.
+unfoldable pub search_job : Records → ℕ → Outcome
+search_job r n = search r (next_search r n)
+
+-- how much waits to be done; no tags wait yet
+unfoldable pub queues : Records → Outcome
+queues r = told r (replies.Queues (record { search = length (search_queue r); display = 0 }))
+
 unfoldable pub step : Records → Caller → Command → Outcome
 step r callers.Console (commands.Import file) = import r file
 step r callers.Console (commands.Decide d) = decide r d
 step r callers.Console (commands.Undo n) = undo r n
 step r callers.Console (commands.Relations file) = relations r file
+step r callers.Console (commands.SearchDistance d) = set_distance r d
+step r callers.Console (commands.SearchJob n) = search_job r n
+step r callers.Console (commands.SearchFiles s) = search_files r s
+step r callers.Console commands.Queues = queues r
+step r callers.Console commands.RebalanceJob = told r replies.Rebalanced
 
 -- What may be answered: the step's reply, with the step's records after it, or want of memory; or, where
 -- the records would change, that there is no room to keep the change, or that it wasn't kept. But for the

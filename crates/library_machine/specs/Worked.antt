@@ -12,15 +12,31 @@ use Rattle.media_base.specs.declared.reply.Reply.TheVariants as answers
 abbrev pub file : ℕ → FileNo
 file k = record { 0 = k }
 
--- the import of a file whose SHA-256 is 32 times the byte k
-abbrev pub import_of : ℕ → Command
-import_of k = commands.Import (record {
+-- the import of a file whose SHA-256 is 32 times the byte k, with these hashes
+abbrev pub import_with : ℕ → List ℕ → Command
+import_with k words = commands.Import (record {
   sha = record { 0 = replicate 32 k };
-  hashes = [];
+  hashes = map (λ word. record { 0 = word }) words;
   size = 7;
   width = 3;
   height = 2;
 })
+
+-- the same without hashes
+abbrev pub import_of : ℕ → Command
+import_of k = import_with k []
+
+-- a search of files within a distance
+abbrev pub search_of : List ℕ → ℕ → Command
+search_of files d = commands.SearchFiles (record { files = map file files; distance = d })
+
+-- so many files were searched further than before, and so many are left
+abbrev pub searched : ℕ → ℕ → Reply
+searched count left = answers.Searched (record { searched = count; left = left })
+
+-- so many files wait to be searched
+abbrev pub queued : ℕ → Reply
+queued count = answers.Queues (record { search = count; display = 0 })
 
 -- a decision of files a and b
 abbrev pub decide_of : Code → ℕ → ℕ → Command

@@ -1,12 +1,14 @@
-ghost use Rattle.std.specs.Prelude.{◌≡◌};
+ghost use Rattle.std.specs.Prelude.{◌≡◌, ℕ};
 ghost use Rattle.media_types.specs.declared.decision.Decision.{Decision};
 ghost use Rattle.media_types.specs.declared.new_file.NewFile.{NewFile};
 ghost use Rattle.media_types.specs.declared.numbers.DecisionNo.{DecisionNo};
 ghost use Rattle.media_types.specs.declared.numbers.FileNo.{FileNo};
+ghost use Rattle.media_types.specs.declared.searching.Searching.{Searching};
 ghost use Rattle.media_base.specs.declared.command.Caller.{Caller};
+ghost use Rattle.media_base.specs.declared.command.Command.TheVariants as commands;
 ghost use Rattle.media_base.specs.declared.refusal.Refusal.TheVariants as refusals;
 ghost use Rattle.library_machine.specs.Records.{Records, Fits, no_records};
-ghost use Rattle.library_machine.specs.Laws.{RefusalsChangeNothing, RefusedAnswersChangeNothing, NeverLacks, StepsKeepFit, AnswersKeepFit, ChangesAreTold, ChangesLead, RefusesImports, RefusesDecisions, RefusesUndoing, RefusesRelations};
+ghost use Rattle.library_machine.specs.Laws.{RefusalsChangeNothing, RefusedAnswersChangeNothing, NeverLacks, StepsKeepFit, AnswersKeepFit, ChangesAreTold, ChangesLead, RefusesImports, RefusesDecisions, RefusesUndoing, RefusesRelations, RefusesSearches, IsNeverRefused, WantsChange};
 
 /// A refused command changes nothing.
 pub fn refusals_change_nothing()
@@ -32,6 +34,8 @@ pub fn records_stay_fit()
     ensures after_an_answer { AnswersKeepFit }
 {
     file_records::laws();
+    file_records::search_laws();
+    decision_book::laws();
 }
 
 /// Exactly when the step gives each refusal.
@@ -40,12 +44,23 @@ pub fn refusals_have_causes()
     ensures decisions { (r : Records) (caller : Caller) (d : Decision) → RefusesDecisions r caller d }
     ensures undoing { (r : Records) (caller : Caller) (n : DecisionNo) → RefusesUndoing r caller n }
     ensures relations { (r : Records) (caller : Caller) (file : FileNo) → RefusesRelations r caller file }
+    ensures searches { (r : Records) (caller : Caller) (s : Searching) → RefusesSearches r caller s }
+    ensures distances { (d : ℕ) → IsNeverRefused (commands.SearchDistance d) }
+    ensures jobs { (n : ℕ) → IsNeverRefused (commands.SearchJob n) }
+    ensures queues { IsNeverRefused commands.Queues }
+    ensures rebalancing { IsNeverRefused commands.RebalanceJob }
 {
     file_records::laws();
 }
 
 /// A step tells a change exactly where the records change, and the change alone leads to the same records.
+/// That it wasn't kept is answered only where there is one.
 pub fn changes_are_kept()
     ensures told { ChangesAreTold }
     ensures lead { ChangesLead }
-{}
+    ensures room { WantsChange refusals.JournalFull }
+    ensures kept { WantsChange refusals.NotKept }
+{
+    steps_never_lack();
+    file_records::search_laws();
+}

@@ -1,14 +1,15 @@
 ghost use Rattle.std.specs.Prelude.{◌≡◌, [], ◌∷◌};
 ghost use Rattle.media_types.specs.declared.decision.Code.TheVariants.{Alternates, NotRelated, Same};
+ghost use Rattle.media_base.specs.declared.command.Command.TheVariants.{Queues, RebalanceJob, SearchDistance, SearchJob};
 ghost use Rattle.media_base.specs.declared.refusal.Refusal.TheVariants.{AlreadyUndone, SameFile, UnknownDecision, UnknownFile};
 ghost use Rattle.media_base.specs.declared.reply.ImportStatus.TheVariants.{New, Known};
-ghost use Rattle.media_base.specs.declared.reply.Reply.TheVariants.{Refused};
+ghost use Rattle.media_base.specs.declared.reply.Reply.TheVariants.{Distance, Rebalanced, Refused};
 ghost use Rattle.library_machine.specs.Records.{no_records};
 ghost use Rattle.library_machine.specs.Session.{replies, replies_behind};
-ghost use Rattle.library_machine.specs.Worked.{decide_of, import_of, better_than, relations_of, undo_of, imported, decided, undone, grouped, standing};
+ghost use Rattle.library_machine.specs.Worked.{decide_of, import_of, import_with, queued, search_of, searched, better_than, relations_of, undo_of, imported, decided, undone, grouped, standing};
 
 /// Small sessions whose replies can be followed by hand. The call does nothing.
-#[tactic(auto, unfolding(crate::specs::Step::step, crate::specs::Step::import, crate::specs::Step::decide, crate::specs::Step::undo, crate::specs::Step::relations, relation_groups::specs::Relations::relations_at))]
+#[tactic(auto, unfolding(crate::specs::Step::step, crate::specs::Step::import, crate::specs::Step::decide, crate::specs::Step::undo, crate::specs::Step::relations, crate::specs::Step::set_distance, crate::specs::Step::search, crate::specs::Step::search_files, crate::specs::Step::search_job, crate::specs::Step::queues, file_records::specs::Searching::queue_of, file_records::specs::Searching::searched, file_records::specs::Searching::rising, relation_groups::specs::Relations::relations_at))]
 pub fn worked_rows()
     ensures a_known_file_keeps_its_number { replies no_records (import_of 10 ∷ import_of 11 ∷ import_of 10 ∷ [])
         ≡ imported 0 New ∷ imported 1 New ∷ imported 0 Known ∷ [] }
@@ -51,4 +52,16 @@ pub fn worked_rows()
         (import_of 10 ∷ import_of 11 ∷ better_than 0 1 ∷ decide_of Alternates 0 1 ∷ [])
         (relations_of 1 ∷ [])
         ≡ standing 1 (1 ∷ []) (0 ∷ []) [] ∷ [] }
+    ensures queue_by_distance { replies_behind
+        (import_with 10 (0xaa ∷ []) ∷ import_with 11 (0xaa ∷ []) ∷ [])
+        (Queues ∷ SearchJob 1 ∷ search_of (1 ∷ 1 ∷ []) 3 ∷ search_of (1 ∷ []) 2 ∷ SearchJob 5 ∷ SearchDistance 9 ∷ Queues ∷ [])
+        ≡ queued 2 ∷ searched 1 1 ∷ searched 1 1 ∷ searched 0 1 ∷ searched 1 0 ∷ Distance 9 ∷ queued 2 ∷ [] }
+
+    // A file without a hash isn't in the queue, and can be searched all the same.
+    ensures no_hash_to_search { replies_behind
+        (import_of 10 ∷ import_with 11 (0 ∷ []) ∷ [])
+        (Queues ∷ search_of (1 ∷ 0 ∷ 1 ∷ []) 8 ∷ SearchJob 1 ∷ SearchDistance 8 ∷ [])
+        ≡ queued 1 ∷ searched 2 0 ∷ searched 0 0 ∷ Distance 8 ∷ [] }
+    ensures no_such_file_to_search { replies_behind (import_of 10 ∷ []) (search_of (0 ∷ 1 ∷ []) 8 ∷ Queues ∷ RebalanceJob ∷ [])
+        ≡ Refused UnknownFile ∷ queued 0 ∷ Rebalanced ∷ [] }
 {}

@@ -1,4 +1,4 @@
-use Rattle.library_machine.proofs.Causes.{refuses_imports, refuses_decisions, refuses_undoing, refuses_relations}
+use Rattle.library_machine.proofs.Causes.{refuses_imports, refuses_decisions, refuses_undoing, refuses_relations, refuses_searches, never_refused_distances, never_refused_jobs, never_refused_queues, never_refused_rebalancing}
 use Rattle.library_machine.proofs.laws.refusals_have_causes.Goals as goal
 
 pub returns-clause-imports : goal.returns-clause-imports
@@ -12,3 +12,18 @@ returns-clause-undoing c = refuses_undoing
 
 pub returns-clause-relations : goal.returns-clause-relations
 returns-clause-relations c = refuses_relations
+
+pub returns-clause-searches : goal.returns-clause-searches
+returns-clause-searches c = refuses_searches
+
+pub returns-clause-distances : goal.returns-clause-distances
+returns-clause-distances c = never_refused_distances
+
+pub returns-clause-jobs : goal.returns-clause-jobs
+returns-clause-jobs c = never_refused_jobs
+
+pub returns-clause-queues : goal.returns-clause-queues
+returns-clause-queues c = never_refused_queues
+
+pub returns-clause-rebalancing : goal.returns-clause-rebalancing
+returns-clause-rebalancing c = never_refused_rebalancing

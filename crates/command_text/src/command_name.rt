@@ -1,0 +1,37 @@
+ghost use Rattle.std.specs.Prelude.{◌≡◌};
+ghost use Rattle.command_text.specs.Reading.{name_of};
+
+/// A command's name.
+#[derive(Clone, Copy)]
+pub enum CommandName {
+    Import,
+    Decide,
+    Undo,
+    Relations,
+    SearchDistance,
+    SearchJob,
+    SearchFiles,
+    Queues,
+    RebalanceJob,
+}
+
+impl CommandName {
+    /// The name that requests spell so.
+    #[tactic(auto, unfolding(crate::specs::Reading::name_of))]
+    pub fn of_text(text: &str) -> Option<CommandName>
+        ensures { result ≡ name_of text.now }
+    {
+        match text {
+            "import" => Some(CommandName::Import),
+            "decide" => Some(CommandName::Decide),
+            "undo" => Some(CommandName::Undo),
+            "relations" => Some(CommandName::Relations),
+            "search_distance" => Some(CommandName::SearchDistance),
+            "search_job" => Some(CommandName::SearchJob),
+            "search_files" => Some(CommandName::SearchFiles),
+            "queues" => Some(CommandName::Queues),
+            "rebalance_job" => Some(CommandName::RebalanceJob),
+            _ => None,
+        }
+    }
+}

@@ -1,0 +1,178 @@
+use super::assert_refused;
+use crate::read_line;
+use media_base::{Command, FieldName, Hash64, Refusal};
+use std::test::Fail;
+
+// An import that lacks only its closing brace, and has no hashes yet.
+const IMPORT: &str =
+    r#"{"do":"import","size":1,"width":2,"height":3,"sha256":"00112233445566778899aabbccddeeffFFEEDDCCBBAA99887766554433221100""#;
+
+#[test]
+fn faulty_imports_are_refused(rt: HostRuntime) -> Result<(), Fail> {
+    let cases = [
+        ("\"sha256\":5", FieldName::Sha256),
+        ("\"sha256\":null", FieldName::Sha256),
+        ("\"sha256\":[]", FieldName::Sha256),
+        ("\"hashes\":null", FieldName::Hashes),
+        ("\"hashes\":{}", FieldName::Hashes),
+        ("\"hashes\":[1]", FieldName::Hashes),
+        ("\"hashes\":\"00000000000000aa\"", FieldName::Hashes),
+        ("\"hashes\":[null]", FieldName::Hashes),
+        ("\"hashes\":[[]]", FieldName::Hashes),
+        ("\"hashes\":[\"00000000000000aa\",170]", FieldName::Hashes),
+        ("\"hashes\":[\"\",170]", FieldName::Hashes),
+        ("\"size\":-1", FieldName::Size),
+        ("\"size\":1.0", FieldName::Size),
+        ("\"size\":1e3", FieldName::Size),
+        ("\"size\":18446744073709551616", FieldName::Size),
+        ("\"size\":\"1\"", FieldName::Size),
+        ("\"width\":4294967296", FieldName::Width),
+        ("\"height\":4294967296", FieldName::Height),
+        ("\"height\":-1,\"width\":-1,\"size\":-1", FieldName::Size),
+        ("\"hashes\":1,\"sha256\":1", FieldName::Sha256),
+        ("\"sha256\":\"00\",\"hashes\":1", FieldName::Hashes),
+        ("\"sha256\":\"00\",\"width\":-1", FieldName::Width),
+        ("\"sha256\":\"00\",\"height\":null", FieldName::Height),
+        ("\"hashes\":[\"0\"],\"height\":-1", FieldName::Height),
+        (
+            "\"hashes\":[\"0\",\"0\",\"0\",\"0\",\"0\"],\"width\":-1",
+            FieldName::Width,
+        ),
+    ];
+    for (fields, want) in cases {
+        let line = format!(in rt.alloc(); "{IMPORT},{fields}}}")?;
+        assert_refused(&rt, rt.alloc(), line.as_bytes(), Refusal::NotARequest(want));
+    }
+    Ok(())
+}
+
+// 63 digits, and what may stand behind them.
+#[test]
+fn other_than_sixty_four_digits_are_a_bad_hash(rt: HostRuntime) -> Result<(), Fail> {
+    let digits = "00112233445566778899aabbccddeeff00112233445566778899aabbccddeef";
+    for end in ["", "g", "G", " ", "ff", "fff", "\u{e9}"] {
+        let line = format!(in rt.alloc(); "{IMPORT},\"sha256\":\"{digits}{end}\"}}")?;
+        assert_refused(&rt, rt.alloc(), line.as_bytes(), Refusal::BadHash);
+    }
+    for text in ["", "0", "00", "0x00"] {
+        let line = format!(in rt.alloc(); "{IMPORT},\"sha256\":\"{text}\"}}")?;
+        assert_refused(&rt, rt.alloc(), line.as_bytes(), Refusal::BadHash);
+    }
+    for end in ["0", "9", "a", "f", "A", "F"] {
+        let line = format!(in rt.alloc(); "{IMPORT},\"sha256\":\"{digits}{end}\"}}")?;
+        assert!(rt; read_line(rt.alloc(), line.as_bytes()).is_ok());
+    }
+    Ok(())
+}
+
+const FOUR: &str = r#""00000000000000aa","00000000000000aa","00000000000000aa","00000000000000aa""#;
+
+#[test]
+fn other_than_sixteen_digits_are_a_bad_hash(rt: HostRuntime) -> Result<(), Fail> {
+    let texts = [
+        "",
+        "00000000000000a",
+        "00000000000000aaa",
+        "00000000000000aaaa",
+        "00000000000000ag",
+        "0x000000000000aa",
+        " 00000000000000a",
+        "00000000000000\u{e9}",
+    ];
+    for text in texts {
+        let line = format!(in rt.alloc(); "{IMPORT},\"hashes\":[\"{text}\"]}}")?;
+        assert_refused(&rt, rt.alloc(), line.as_bytes(), Refusal::BadHash);
+    }
+    Ok(())
+}
+
+// A bad hash is told before their number, wherever it stands.
+#[test]
+fn more_than_four_hashes_are_refused(rt: HostRuntime) -> Result<(), Fail> {
+    let cases = [
+        (",\"00000000000000aa\"", Refusal::TooManyHashes),
+        (
+            ",\"00000000000000aa\",\"00000000000000ab\"",
+            Refusal::TooManyHashes,
+        ),
+        (",\"0\"", Refusal::BadHash),
+        (",\"00000000000000aa\",\"0\"", Refusal::BadHash),
+        (",\"0\",\"00000000000000aa\"", Refusal::BadHash),
+        ("],\"sha256\":\"00\",\"x\":[", Refusal::BadHash),
+        (
+            ",\"00000000000000aa\"],\"sha256\":\"00\",\"x\":[",
+            Refusal::BadHash,
+        ),
+    ];
+    for (more, want) in cases {
+        let line = format!(in rt.alloc(); "{IMPORT},\"hashes\":[{FOUR}{more}]}}")?;
+        assert_refused(&rt, rt.alloc(), line.as_bytes(), want);
+    }
+    Ok(())
+}
+
+// The first digit is the highest, and case doesn't matter.
+#[test]
+fn a_hash_is_read(rt: HostRuntime) -> Result<(), Fail> {
+    let cases = [
+        ("00000000000000aa", 0xaa),
+        ("00000000000000AA", 0xaa),
+        ("aA00000000000000", 0xaa00_0000_0000_0000),
+        ("0123456789abcdef", 0x0123_4567_89ab_cdef),
+        ("ffffffffffffffff", u64::MAX),
+        ("0000000000000000", 0),
+    ];
+    for (text, want) in cases {
+        let line = format!(in rt.alloc(); "{IMPORT},\"hashes\":[\"{text}\"]}}")?;
+        match read_line(rt.alloc(), line.as_bytes())? {
+            Command::Import(file) => assert_eq!(rt;
+                file.hashes.as_slice(),
+                [Hash64(want)].as_slice()
+            ),
+            _ => panic!(rt; "no import: {line}"),
+        }
+    }
+    Ok(())
+}
+
+#[test]
+fn hashes_keep_their_order(rt: HostRuntime) -> Result<(), Fail> {
+    let texts = r#""0000000000000003","0000000000000001","0000000000000003","0000000000000002""#;
+    let line = format!(in rt.alloc(); "{IMPORT},\"hashes\":[{texts}]}}")?;
+    match read_line(rt.alloc(), line.as_bytes())? {
+        Command::Import(file) => {
+            assert_eq!(rt;
+                file.hashes.as_slice(),
+                [Hash64(3), Hash64(1), Hash64(3), Hash64(2)].as_slice()
+            );
+        }
+        _ => panic!(rt; "no import: {line}"),
+    }
+    Ok(())
+}
+
+#[test]
+fn imports_are_read(rt: HostRuntime) -> Result<(), Fail> {
+    let cases = [
+        ("\"Hashes\":[1]", 1, 2, 3),
+        ("\"hashes\":[]", 1, 2, 3),
+        ("\"size\":18446744073709551615", u64::MAX, 2, 3),
+        ("\"width\":4294967295,\"height\":0", 1, u32::MAX, 0),
+        ("\"size\":\"1\",\"size\":5,\"Size\":[]", 5, 2, 3),
+    ];
+    for (fields, size, width, height) in cases {
+        let line = format!(in rt.alloc(); "{IMPORT},{fields}}}")?;
+        match read_line(rt.alloc(), line.as_bytes())? {
+            Command::Import(file) => {
+                assert_eq!(rt; file.sha.0[1], 0x11);
+                assert_eq!(rt; file.sha.0[16], 0xff);
+                assert!(rt; file.hashes.as_slice().is_empty());
+                assert_eq!(rt; file.size, size);
+                assert_eq!(rt; file.width, width);
+                assert_eq!(rt; file.height, height);
+            }
+            _ => panic!(rt; "no import: {line}"),
+        }
+    }
+    Ok(())
+}
