@@ -1,7 +1,6 @@
 -- What is prepared for a command is its outcome.
-use Rattle.std.proofs.Common.{◌≡◌, ◌≤◌, ℕ, Bool, true, false, not, cond, nat_lt, ◌==◌, ◌&&◌, Some, None, List, [], ◌∷◌, ◌++◌, length, map, slice_get, refl, ap, sym, ◌∙◌}
-use Rattle.std.specs.List.{filter}
-use Rattle.std.proofs.lemmas.Bool.{ltb-true, eqb-false, and_parts}
+use Rattle.std.proofs.Common.{◌≡◌, ◌≤◌, ℕ, Bool, true, false, nat_lt, Vec, Global, ◌==◌, ◌&&◌, Some, None, List, [], ◌∷◌, ◌++◌, length, slice_get, not, refl, arith, ap, sym, ◌∙◌}
+use Rattle.std.proofs.lemmas.Bool.{ltb-true, lt-ltb, eqb-true, eqb-false, and_parts}
 use Rattle.std.proofs.lemmas.Option.{same_Some, slice_get_within}
 use Rattle.media_types.specs.declared.decision.Decision.{Decision}
 use Rattle.media_types.specs.declared.file_relations.FileRelations.{FileRelations}
@@ -15,20 +14,26 @@ use Rattle.media_base.specs.declared.command.Command.TheVariants as commands
 use Rattle.media_base.specs.declared.reply.ImportStatus.TheVariants as imports
 use Rattle.media_base.specs.declared.reply.Reply.TheVariants as replies
 use Rattle.spare_tables.specs.Table.{Table}
-use Rattle.file_records.specs.Importing.{IsPlannedFor}
+use Rattle.file_records.specs.Importing.{IsPlannedFor, Planned}
 use Rattle.file_records.specs.Lookup.{file_with}
 use Rattle.file_records.specs.Rows.{row_of}
+use Rattle.file_records.specs.Searching.{is_queued}
+use Rattle.file_records.specs.Words.{new_words, words_of}
 use Rattle.file_records.specs.declared.file_row.FileRow.{FileRow}
 use Rattle.decision_book.specs.declared.decision_row.DecisionRow.{DecisionRow}
 use Rattle.decision_book.specs.Recorded.{Recorded, undone_at}
 use Rattle.decision_book.specs.Standing as book
-use Rattle.relation_groups.specs.Reading.{Kept, IsPlanFor, Planned, relations_after, relations_in, size_of}
+use Rattle.relation_groups.specs.Reading.{Kept, IsPlanFor, relations_after, relations_in, size_of}
+use Rattle.relation_groups.specs.Reading.{Planned as GroupsPlanned}
+use Rattle.tree_upkeep.specs.Queue.{Work}
+use Rattle.vp_tree.specs.declared.node.NodeView.{NodeView}
+use Rattle.vp_tree.specs.declared.plan.InsertPlan.{InsertPlan}
 use Rattle.relation_groups.specs.Relations.{Relations, after, by_code, decided, relations, relations_at, standing_of}
 use Rattle.library_machine.specs.Laws.{StepsKeepFit}
 use Rattle.library_machine.specs.Records.{Records, Fits}
 use Rattle.library_machine.specs.Step as machine
 use Rattle.library_machine.specs.Step.{Outcome, told, changed, has_file, import, decide, undo, step}
-use Rattle.library_core.specs.Tables.{TablesView, AreInStep, IsPrepared, records_of}
+use Rattle.library_core.specs.Tables.{TablesView, AreInStep, IsPrepared, records_of, words_planned}
 use Rattle.library_core.specs.declared.plan.Prepared.TheVariants as prepared
 use Rattle.library_core.specs.declared.plan.TablesPlan.TheVariants as plans
 
@@ -45,14 +50,22 @@ import_takes : (r : Records) (file : NewFile) → file_with file.sha r.files ≡
 unfolding import
 import_takes r file new room = rw (new, room) refl
 
-pub import_prepared : (old : TablesView) (files : Table FileRow) (book : Recorded) (groups : Kept) (file copy : NewFile) (row : FileRow) (count : ℕ) →
+-- a new file is live and was never searched, so it waits where it has a hash
+new_queued : (has_hash : Bool) → (true && (has_hash && true)) ≡ has_hash
+new_queued true = refl
+new_queued false = refl
+
+pub import_prepared : (old : TablesView) (files : Table FileRow) (book : Recorded) (groups : Kept) (tree : Table NodeView) (work : Work)
+    (file copy : NewFile) (plan : Planned) (inserts : Vec InsertPlan Global) (queued : Bool) (count : ℕ) →
     StepsKeepFit → AreInStep old →
-    files.rows ≡ old.files.rows → book.rows ≡ old.book.rows → 1 ≤ book.spare → 1 ≤ groups.room →
+    files.rows ≡ old.files.rows → book.rows ≡ old.book.rows → 1 ≤ book.spare → 1 ≤ groups.spare → 1 ≤ work.spare →
     file_with file.sha old.files.rows ≡ None → nat_lt (length old.files.rows) MAX_FILES ≡ true → count ≡ length old.files.rows →
-    copy ≡ file → row ≡ row_of file → IsPlannedFor row files →
-    IsPrepared (import (records_of old) file) (record { files = files; book = book; groups = groups })
-    (prepared.Change (plans.Import row) (changes.File copy) (replies.Imported (record { file = record { 0 = count }; status = imports.New })))
-import_prepared old files book groups file copy row count keep step same_files same_book book_room group_room new room is same is_row planned =
+    copy ≡ file → plan.row ≡ row_of file → IsPlannedFor plan files →
+    words_planned inserts.items ≡ plan.words → length plan.words ≤ tree.spare → nat_lt 0 (length file.hashes) ≡ queued →
+    IsPrepared (import (records_of old) file)
+    (record { files = files; book = book; groups = groups; tree = tree; work = work; distance = old.distance })
+    (prepared.Change (plans.Import plan inserts queued) (changes.File copy) (replies.Imported (record { file = record { 0 = count }; status = imports.New })))
+import_prepared old files book groups tree work file copy plan inserts queued count keep step same_files same_book book_room group_room queue_room new room is same is_row planned words tree_room hashes =
     let r = records_of old in
     let o = import_takes r file new room in
     let fits = import_fits keep r file step.fits in (
@@ -62,9 +75,16 @@ import_prepared old files book groups file copy row count keep step same_files s
         planned = planned;
         book_room = book_room;
         group_room = group_room;
+        words = words;
+        tree_room = tree_room;
+        told = ap (is_queued old.distance) is_row ∙ new_queued (nat_lt 0 (length file.hashes)) ∙ hashes;
+        queue_room = queue_room;
         fits = fits;
         leads = ap (λ (o : Outcome). o.records) o ∙ rw (same_files, same_book, is_row) refl;
       },
+      words ∙ planned.words
+          ∙ ap (λ (row : FileRow). new_words (words_of files.rows) row.hashes) is_row
+          ∙ ap (λ (f : NewFile). new_words (words_of files.rows) f.hashes) (sym same),
     )
 
 -- ---- decisions
@@ -86,27 +106,19 @@ after_one : (R : Relations) (ds : List Decision) (d : Decision) → after R (ds 
 after_one R [] d = refl
 after_one R (first ∷ ds) d = after_one (decided first R) ds d
 
-standing_more : (rows : List DecisionRow) (row : DecisionRow) (d : Decision) (u : Bool) →
-    book.standing (rows ++ book.row_of d ∷ []) ≡ book.standing rows ++ d ∷ [] →
-    map book.decision_of (cond (not u) (row ∷ filter (λ r. not r.undone) (rows ++ book.row_of d ∷ [])) (filter (λ r. not r.undone) (rows ++ book.row_of d ∷ [])))
-    ≡ map book.decision_of (cond (not u) (row ∷ filter (λ r. not r.undone) rows) (filter (λ r. not r.undone) rows)) ++ d ∷ []
-standing_more rows row d true rest = rest
-standing_more rows row d false rest = ap (λ ds. book.decision_of row ∷ ds) rest
+-- what the book says of one more decision: it stands behind the others
+abbrev pub StandsLast : Type 0
+StandsLast = (rows : List DecisionRow) (d : Decision) → book.standing (rows ++ book.row_of d ∷ []) ≡ book.standing rows ++ d ∷ []
 
--- and stands behind them
-standing_one : (rows : List DecisionRow) (d : Decision) → book.standing (rows ++ book.row_of d ∷ []) ≡ book.standing rows ++ d ∷ []
-standing_one [] d = refl
-standing_one (row ∷ rows) d = standing_more rows row d row.undone (standing_one rows d)
-
-pub decide_prepared : (old : TablesView) (rows : Recorded) (groups : Kept) (d : Decision) (plan : Planned) (count : ℕ) →
+pub decide_prepared : StandsLast → (old : TablesView) (rows : Recorded) (groups : Kept) (d : Decision) (plan : GroupsPlanned) (count : ℕ) →
     StepsKeepFit → AreInStep old →
     rows.rows ≡ old.book.rows → 1 ≤ rows.spare → groups ≡ old.groups →
     (has_file (records_of old) d.a && has_file (records_of old) d.b) ≡ true → (d.a.0 == d.b.0) ≡ false →
     nat_lt (length old.book.rows) MAX_DECISIONS ≡ true → count ≡ length old.book.rows →
     IsPlanFor plan groups → relations_after plan groups ≡ by_code d.code d.a.0 d.b.0 (relations_in old.groups) →
-    IsPrepared (decide (records_of old) d) (record { files = old.files; book = rows; groups = groups })
+    IsPrepared (decide (records_of old) d) (record { files = old.files; book = rows; groups = groups; tree = old.tree; work = old.work; distance = old.distance })
     (prepared.Change (plans.Decide d plan) (changes.Decision d) (replies.Decided (record { 0 = count })))
-decide_prepared old rows groups d plan count keep step same room same_groups there two few is planned related =
+decide_prepared stands_last old rows groups d plan count keep step same room same_groups there two few is planned related =
     let r = records_of old in
     let o = decide_takes r d there two few in
     let both = and_parts _ _ there in (
@@ -118,10 +130,11 @@ decide_prepared old rows groups d plan count keep step same room same_groups the
         few = rw same (ltb-true _ _ few);
         room = room;
         planned = planned;
-        related = related ∙ ap (decided d) step.related ∙ sym (after_one _ (book.standing old.book.rows) d) ∙ ap relations (sym (standing_one old.book.rows d)) ∙ rw same refl;
+        related = related ∙ ap (decided d) step.related ∙ sym (after_one _ (book.standing old.book.rows) d) ∙ ap relations (sym (stands_last old.book.rows d)) ∙ rw same refl;
         fits = decide_fits keep r d step.fits;
         leads = ap (λ (o : Outcome). o.records) o ∙ rw same refl;
       },
+      refl,
     )
 
 -- ---- relations
@@ -158,11 +171,11 @@ undo_takes : (r : Records) (n : DecisionNo) (row : DecisionRow) → slice_get r.
 unfolding undo
 undo_takes r n row there stands = rw (there, stands) refl
 
-pub undo_prepared : (old : TablesView) (groups : Kept) (n : DecisionNo) (row : DecisionRow) (plan : Planned) →
+pub undo_prepared : (old : TablesView) (groups : Kept) (n : DecisionNo) (row : DecisionRow) (plan : GroupsPlanned) →
     StepsKeepFit → AreInStep old →
     slice_get old.book.rows n.0 ≡ Some row → row.undone ≡ false →
     IsPlanFor plan groups → relations_after plan groups ≡ relations (book.standing (undone_at n.0 old.book.rows)) →
-    IsPrepared (undo (records_of old) n) (record { files = old.files; book = old.book; groups = groups })
+    IsPrepared (undo (records_of old) n) (record { files = old.files; book = old.book; groups = groups; tree = old.tree; work = old.work; distance = old.distance })
     (prepared.Change (plans.Undo n plan) (changes.Undo n) (replies.Undone n))
 undo_prepared old groups n row plan keep step there stands planned related =
     let r = records_of old in
@@ -177,4 +190,13 @@ undo_prepared old groups n row plan keep step there stands planned related =
         fits = undo_fits keep r n step.fits;
         leads = ap (λ (o : Outcome). o.records) o;
       },
+      refl,
     )
+
+-- a list has an element exactly where its length isn't 0
+some_by : (n : ℕ) (none : Bool) → (n == 0) ≡ none → nat_lt 0 n ≡ not none
+some_by n true is = ap (nat_lt 0) (eqb-true n 0 is)
+some_by n false is = let some = eqb-false n 0 is in lt-ltb 0 n (omega (arith, some))
+
+pub has_some : (n : ℕ) (none : Bool) → none ≡ (n == 0) → nat_lt 0 n ≡ not none
+has_some n none is = some_by n none (sym is)

@@ -1,43 +1,40 @@
 -- An undoing makes the decisions of all files anew.
-use Rattle.std.proofs.Common.{◌≡◌, ◌<◌, ◌≤◌, ◌+◌, ℕ, zero, suc, Bool, true, false, not, cond, ◌==◌, ◌||◌, List, [], ◌∷◌, length, map, All, refl, arith, ap, sym, ◌∙◌}
-use Rattle.std.specs.List.{filter, range_with_len, AllByRecursion}
+use Rattle.std.proofs.Common.{◌≡◌, ◌≢◌, ◌<◌, ◌≤◌, ◌+◌, ℕ, zero, suc, Bool, true, false, not, cond, ◌==◌, ◌||◌, List, [], ◌∷◌, map, All, refl, arith, ap, sym, ◌∙◌}
+use Rattle.std.specs.List.{range_with_len, AllByRecursion, Contains}
 use Rattle.std.proofs.lemmas.Bool.{eqb-false}
-use Rattle.std.proofs.lemmas.List.Elements.{All-from_recursion, recursion_from_All}
+use Rattle.std.proofs.lemmas.List.Elements.{All-contains, All-from_recursion, recursion_from_All}
 use Rattle.media_types.specs.declared.decision.Decision.{Decision}
 use Rattle.media_types.specs.declared.numbers.FileNo.{FileNo}
 use Rattle.decision_book.specs.declared.decision_row.DecisionRow.{DecisionRow}
 use Rattle.decision_book.specs.Recorded.{undone_at}
 use Rattle.decision_book.specs.Standing.{decision_of, standing}
 use Rattle.relation_groups.specs.Clusters.{IsClosed, IsSplitBy, IsWithin, is_one_of, outside, patched, touching}
-use Rattle.relation_groups.specs.Laws.{ClosedSetsSplit, OthersStay}
+use Rattle.relation_groups.specs.Laws.{AreOfTwo, ClosedSetsSplit, OthersStay}
 use Rattle.relation_groups.specs.Relations.{AreAmong, files, relations}
 
 -- ---- the decisions that stand
 
-one_standing : (P : Decision → Type 0) (row : DecisionRow) (rows : List DecisionRow) (u : Bool) → P (decision_of row) → AllByRecursion P (standing rows) →
-    AllByRecursion P (map decision_of (cond (not u) (row ∷ filter (λ r. not r.undone) rows) (filter (λ r. not r.undone) rows)))
-one_standing P row rows true here rest = rest
-one_standing P row rows false here rest = (here, rest)
+-- what the book says of the decisions that stand: each was recorded
+abbrev pub AllRecorded : Type 0
+AllRecorded = (rows : List DecisionRow) → All (Contains (map decision_of rows)) (standing rows)
+
+-- and of an undoing: each row keeps its decision
+abbrev pub KeepsDecisions : Type 0
+KeepsDecisions = (n : ℕ) (rows : List DecisionRow) → map decision_of (undone_at n rows) ≡ map decision_of rows
 
 -- what holds of each decision holds of each that stands
-all_standing : (P : Decision → Type 0) (rows : List DecisionRow) → AllByRecursion P (map decision_of rows) → AllByRecursion P (standing rows)
-all_standing P [] all = tt
-all_standing P (row ∷ rows) all = one_standing P row rows row.undone all.0 (all_standing P rows all.1)
+all_standing : AllRecorded → (P : Decision → Type 0) (rows : List DecisionRow) → All P (map decision_of rows) → All P (standing rows)
+all_standing recorded P rows all = λ k d lt. All-contains P (map decision_of rows) _ all (recorded rows k d lt)
 
-pub standing_among : (n : ℕ) (rows : List DecisionRow) → AreAmong n (map decision_of rows) → AreAmong n (standing rows)
-standing_among n rows among =
-    let P : Decision → Type 0 = λ d. (d.a.0 < n) × (d.b.0 < n) in
-    All-from_recursion P (standing rows) (all_standing P rows (recursion_from_All P (map decision_of rows) among))
+pub standing_among : AllRecorded → (n : ℕ) (rows : List DecisionRow) → AreAmong n (map decision_of rows) → AreAmong n (standing rows)
+standing_among recorded n rows among = all_standing recorded (λ d. (d.a.0 < n) × (d.b.0 < n)) rows among
 
-few_more : (rows : List DecisionRow) (row : DecisionRow) (u : Bool) → length (standing rows) ≤ length rows →
-    length (map decision_of (cond (not u) (row ∷ filter (λ r. not r.undone) rows) (filter (λ r. not r.undone) rows))) ≤ length (row ∷ rows)
-few_more rows row true few = omega arith
-few_more rows row false few = omega arith
+-- also once one is undone
+pub left_among : AllRecorded → KeepsDecisions → (n m : ℕ) (rows : List DecisionRow) → AreAmong m (map decision_of rows) → AreAmong m (standing (undone_at n rows))
+left_among recorded same n m rows among = standing_among recorded m (undone_at n rows) (rw (same n rows) among)
 
--- no more decisions stand than were recorded
-pub few_standing : (rows : List DecisionRow) → length (standing rows) ≤ length rows
-few_standing [] = omega arith
-few_standing (row ∷ rows) = few_more rows row row.undone (few_standing rows)
+pub left_of_two : AllRecorded → KeepsDecisions → (n : ℕ) (rows : List DecisionRow) → AreOfTwo (map decision_of rows) → AreOfTwo (standing (undone_at n rows))
+left_of_two recorded same n rows two = all_standing recorded (λ d. d.a.0 ≢ d.b.0) (undone_at n rows) (rw (same n rows) two)
 
 -- ---- all files
 
@@ -98,20 +95,3 @@ all_anew stay n ds es among also =
     let none_those = touching_none S es (recursion_from_All P es those) in
     ap (λ fs. patched S (relations fs) (relations ds)) (sym (touching_all S es (recursion_from_All P es those)))
     ∙ sym (stay S ds es (within_closed S ds these) (within_closed S es those) (none_these ∙ sym none_those))
-
--- an undone decision is of the same files
-same_decisions : (n : ℕ) (rows : List DecisionRow) → map decision_of (undone_at n rows) ≡ map decision_of rows
-same_decisions n [] = refl
-same_decisions zero (row ∷ rows) = refl
-same_decisions (suc n) (row ∷ rows) = ap (λ ds. decision_of row ∷ ds) (same_decisions n rows)
-
-same_length : (n : ℕ) (rows : List DecisionRow) → length (undone_at n rows) ≡ length rows
-same_length n [] = refl
-same_length zero (row ∷ rows) = refl
-same_length (suc n) (row ∷ rows) = ap suc (same_length n rows)
-
-pub left_among : (n m : ℕ) (rows : List DecisionRow) → AreAmong m (map decision_of rows) → AreAmong m (standing (undone_at n rows))
-left_among n m rows among = standing_among m (undone_at n rows) (rw (same_decisions n rows) among)
-
-pub few_left : (n : ℕ) (rows : List DecisionRow) → length (standing (undone_at n rows)) ≤ length rows
-few_left n rows = let few = few_standing (undone_at n rows) in omega (arith, few, same_length n rows)

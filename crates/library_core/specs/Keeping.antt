@@ -1,17 +1,29 @@
 -- What contracts see of a library, and what ties its records to its keeper.
-use Rattle.std.specs.Prelude.{◌≡◌, ◌≢◌, ℕ, Bool, true, Option, Some, Ok}
+use Rattle.std.specs.Prelude.{◌≡◌, ◌≢◌, ℕ, Bool, true, if◌then◌else◌, List, [], Option, Some, Ok}
+use Rattle.media_base.specs.declared.change.Change.{Change}
+use Rattle.media_base.specs.declared.reply.Reply.{Reply}
 use Rattle.media_base.specs.Keeping.{Readings, HasGivenAll}
-use Rattle.library_machine.specs.Changes.{opened}
+use Rattle.vp_tree.specs.declared.node.NodeView.{NodeView}
+use Rattle.vp_tree.specs.Placing.{ArePlaced}
+use Rattle.library_machine.specs.Changes.{is_refused, opened}
 use Rattle.library_machine.specs.Records.{Records, Fits}
+use Rattle.library_core.specs.Tables.{HasWords, words_brought}
 
 pub record LibraryView (K : Type 0) : Type 0 where
   pub records : Records
+  -- the nodes of the metric tree over the hashes
+  pub tree : List NodeView
   pub keeper : K
 
--- The records are such as a session has; the keeper has started and given all that it told, and where it
+-- An import that is accepted places its new words in the tree, in their order. All else leaves the tree.
+abbrev pub GrowsBy : Records → Option Change → Reply → List NodeView → List NodeView → Type 0
+GrowsBy r change reply old new = ArePlaced old (if is_refused reply then [] else words_brought r change) new
+
+-- The records are such as a session has, and the tree has their words; the keeper has started and given all that it told, and where it
 -- tells what it keeps, that opens the records.
-pub record IsInStep {K : Type 0} (ready : K → Type 0) (place : K → Option (ℕ × ℕ)) (alien : K → Option Bool) (kept : K → Option Readings) (records : Records) (keeper : K) : Type 0 where
+pub record IsInStep {K : Type 0} (ready : K → Type 0) (place : K → Option (ℕ × ℕ)) (alien : K → Option Bool) (kept : K → Option Readings) (records : Records) (tree : List NodeView) (keeper : K) : Type 0 where
   pub fits : Fits records
+  pub words : HasWords tree records
   pub is_ready : ready keeper
   pub all_given : HasGivenAll (place keeper)
   pub own : alien keeper ≢ Some true

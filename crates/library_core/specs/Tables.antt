@@ -1,16 +1,27 @@
 -- The tables of a library: what they record, what keeps them in step, and what a planned change does to them.
-use Rattle.std.specs.Prelude.{◌≡◌, ◌≢◌, ◌<◌, ◌≤◌, false, [], ◌∷◌, ◌++◌, length, Some, None, slice_get}
+use Rattle.std.specs.Prelude.{◌≡◌, ◌≢◌, ◌<◌, ◌≤◌, ℕ, Bool, false, List, [], ◌∷◌, ◌++◌, length, map, All, Option, Some, None, slice_get}
 use Rattle.media_types.specs.declared.decision.Decision.{Decision}
+use Rattle.media_types.specs.declared.hash.Hash64.{Hash64}
 use Rattle.media_types.specs.declared.limits.TheConstants.{MAX_DECISIONS}
 use Rattle.media_types.specs.declared.numbers.DecisionNo.{DecisionNo}
+use Rattle.media_types.specs.declared.numbers.FileNo.{FileNo}
+use Rattle.media_base.specs.declared.change.Change.{Change}
+use Rattle.media_base.specs.declared.change.Change.TheVariants as changes
 use Rattle.spare_tables.specs.Table.{Table}
-use Rattle.file_records.specs.Importing.{IsPlannedFor}
+use Rattle.file_records.specs.Importing.{IsPlannedFor, Planned}
+use Rattle.file_records.specs.Searching.{is_queued, queue_of, searched}
+use Rattle.file_records.specs.Words.{new_words, words_of}
 use Rattle.file_records.specs.declared.file_row.FileRow.{FileRow}
 use Rattle.decision_book.specs.declared.decision_row.DecisionRow.{DecisionRow}
 use Rattle.decision_book.specs.Recorded.{Recorded, undone_at}
 use Rattle.decision_book.specs.Standing.{row_of, standing}
-use Rattle.relation_groups.specs.Reading.{Kept, IsPlanFor, Planned, relations_after, relations_in, size_of}
+use Rattle.relation_groups.specs.Reading.{Kept, IsPlanFor, relations_after, relations_in, size_of}
+use Rattle.relation_groups.specs.Reading.{Planned as GroupsPlanned}
 use Rattle.relation_groups.specs.Relations.{relations}
+use Rattle.vp_tree.specs.declared.node.NodeView.{NodeView}
+use Rattle.vp_tree.specs.declared.plan.InsertPlan.{InsertPlan}
+use Rattle.vp_tree.specs.Nodes.{words_in}
+use Rattle.tree_upkeep.specs.Queue.{Work}
 use Rattle.library_machine.specs.Records.{Records, Fits}
 use Rattle.library_machine.specs.Step.{Outcome}
 use Rattle.library_core.specs.declared.plan.Prepared.{Prepared}
@@ -22,28 +33,56 @@ pub record TablesView : Type 0 where
   pub files : Table FileRow
   pub book : Recorded
   pub groups : Kept
+  pub tree : Table NodeView
+  pub work : Work
+  pub distance : ℕ
 
 -- what the tables record
 abbrev pub records_of : TablesView → Records
-records_of t = record { files = t.files.rows; decisions = t.book.rows }
+records_of t = record { files = t.files.rows; decisions = t.book.rows; distance = t.distance }
 
--- The tables speak of the same files, and the groups are those that the standing decisions make.
+-- the tree has the hashes of the files, by number
+abbrev pub HasWords : List NodeView → Records → Type 0
+HasWords tree r = words_in tree ≡ words_of r.files
+
+-- the words that a change brings: those of an imported file that no file has yet
+abbrev pub words_brought : Records → Option Change → List Hash64
+words_brought r None = []
+words_brought r (Some (changes.File file)) = new_words (words_of r.files) file.hashes
+words_brought r (Some (changes.Decision d)) = []
+words_brought r (Some (changes.Undo n)) = []
+words_brought r (Some (changes.Distance d)) = []
+words_brought r (Some (changes.Searched s)) = []
+
+-- The tables speak of the same files, and the groups are those that the standing decisions make. The tree
+-- has the hashes of the files, by number, and the queue has the files that are to be searched.
 pub record AreInStep (t : TablesView) : Type 0 where
   pub fits : Fits (records_of t)
   pub decided : t.book.files ≡ length t.files.rows
   pub grouped : size_of t.groups ≡ length t.files.rows
   pub related : relations_in t.groups ≡ relations (standing t.book.rows)
+  pub words : HasWords t.tree.rows (records_of t)
+  pub queued : t.work.queue ≡ queue_of t.distance t.files.rows
 
--- A planned import can be made, and then these are the records.
-pub record LeadsImport (row : FileRow) (t : TablesView) (after : Records) : Type 0 where
-  pub planned : IsPlannedFor row t.files
+-- the words of planned insertions
+abbrev pub words_planned : List InsertPlan → List Hash64
+words_planned inserts = map (λ insert. insert.word) inserts
+
+-- A planned import can be made, and then these are the records. Its new words have their places planned,
+-- and it is told whether the file is to be searched.
+pub record LeadsImport (plan : Planned) (inserts : List InsertPlan) (queued : Bool) (t : TablesView) (after : Records) : Type 0 where
+  pub planned : IsPlannedFor plan t.files
   pub book_room : 1 ≤ t.book.spare
-  pub group_room : 1 ≤ t.groups.room
+  pub group_room : 1 ≤ t.groups.spare
+  pub words : words_planned inserts ≡ plan.words
+  pub tree_room : length plan.words ≤ t.tree.spare
+  pub told : is_queued t.distance plan.row ≡ queued
+  pub queue_room : 1 ≤ t.work.spare
   pub fits : Fits after
-  pub leads : after ≡ record (records_of t) { files = t.files.rows ++ row ∷ [] }
+  pub leads : after ≡ record (records_of t) { files = t.files.rows ++ plan.row ∷ [] }
 
 -- So can a planned decision.
-pub record LeadsDecide (d : Decision) (plan : Planned) (t : TablesView) (after : Records) : Type 0 where
+pub record LeadsDecide (d : Decision) (plan : GroupsPlanned) (t : TablesView) (after : Records) : Type 0 where
   pub known : (d.a.0 < length t.files.rows) × (d.b.0 < length t.files.rows)
   pub two : d.a.0 ≢ d.b.0
   pub few : length t.book.rows < MAX_DECISIONS
@@ -54,7 +93,7 @@ pub record LeadsDecide (d : Decision) (plan : Planned) (t : TablesView) (after :
   pub leads : after ≡ record (records_of t) { decisions = t.book.rows ++ row_of d ∷ [] }
 
 -- So can a planned undoing.
-pub record LeadsUndo (n : DecisionNo) (plan : Planned) (t : TablesView) (after : Records) : Type 0 where
+pub record LeadsUndo (n : DecisionNo) (plan : GroupsPlanned) (t : TablesView) (after : Records) : Type 0 where
   pub known : n.0 < length t.book.rows
   pub stands : (row : DecisionRow) → slice_get t.book.rows n.0 ≡ Some row → row.undone ≡ false
   pub planned : IsPlanFor plan t.groups
@@ -62,13 +101,37 @@ pub record LeadsUndo (n : DecisionNo) (plan : Planned) (t : TablesView) (after :
   pub fits : Fits after
   pub leads : after ≡ record (records_of t) { decisions = undone_at n.0 t.book.rows }
 
+-- So can a planned change of the distance, which makes the queue anew.
+pub record LeadsDistance (d : ℕ) (queue : List FileNo) (t : TablesView) (after : Records) : Type 0 where
+  pub made : queue ≡ queue_of d t.files.rows
+  pub fits : Fits after
+  pub leads : after ≡ record (records_of t) { distance = d }
+
+-- So can a planned search of files.
+pub record LeadsSearch (files : List FileNo) (d : ℕ) (t : TablesView) (after : Records) : Type 0 where
+  pub known : All (λ file. file.0 < length t.files.rows) files
+  pub fits : Fits after
+  pub leads : after ≡ record (records_of t) { files = searched d files t.files.rows }
+
 -- the plan was made of these tables, and leads them to these records
 abbrev pub Leads : TablesPlan → TablesView → Records → Type 0
-Leads (plans.Import row) t after = LeadsImport row t after
+Leads (plans.Import plan inserts queued) t after = LeadsImport plan inserts.items queued t after
 Leads (plans.Decide d plan) t after = LeadsDecide d plan t after
 Leads (plans.Undo n plan) t after = LeadsUndo n plan t after
+Leads (plans.Distance d queue) t after = LeadsDistance d queue t after
+Leads (plans.Search files d) t after = LeadsSearch files d t after
+
+-- the words that a plan places in the tree
+abbrev pub words_placed : TablesPlan → List Hash64
+words_placed (plans.Import plan inserts queued) = words_planned inserts.items
+words_placed (plans.Decide d plan) = []
+words_placed (plans.Undo n plan) = []
+words_placed (plans.Distance d queue) = []
+words_placed (plans.Search files d) = []
 
 -- what was prepared is the outcome, from these tables on
 abbrev pub IsPrepared : Outcome → TablesView → Prepared → Type 0
 IsPrepared o t (prepared.Told reply) = (o.change ≡ None) × (o.reply ≡ reply) × (o.records ≡ records_of t)
-IsPrepared o t (prepared.Change plan change reply) = (o.change ≡ Some change) × (o.reply ≡ reply) × Leads plan t o.records
+IsPrepared o t (prepared.Change plan change reply) =
+    (o.change ≡ Some change) × (o.reply ≡ reply) × Leads plan t o.records
+    × (words_placed plan ≡ words_brought (records_of t) (Some change))

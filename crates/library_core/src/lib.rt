@@ -8,7 +8,9 @@ mod load_fail;
 mod numbers;
 mod plan;
 mod planning;
+mod searching;
 mod tables;
+mod words;
 
 pub use library::Library;
 pub use load_fail::LoadFail;

@@ -6,7 +6,9 @@ ghost use Rattle.media_base.specs.declared.refusal.Refusal.{Refusal};
 ghost use Rattle.library_machine.specs.Changes.{is_refused, kept_with, opened};
 ghost use Rattle.library_machine.specs.Records.{Fits};
 ghost use Rattle.library_machine.specs.Step as machine;
+ghost use Rattle.library_core.specs.Keeping.{GrowsBy};
 ghost use Rattle.library_core.specs.Opening.{put_refusal};
+ghost use Rattle.library_core.specs.Tables.{HasWords};
 
 use crate::plan::Prepared;
 use crate::tables::Tables;
@@ -27,9 +29,13 @@ impl<K: Keeper> Model for Library<K> {
 
     ghost Value = { LibraryView K };
 
-    ghost view = { λ l. record { records = records_of l.tables; keeper = l.keeper } };
+    ghost view = { λ l. record {
+      records = records_of l.tables;
+      tree = l.tables.tree.rows;
+      keeper = l.keeper;
+    } };
 
-    ghost invariant = { λ l. IsInStep K.ready K.place K.alien K.kept (records_of l.tables) l.keeper };
+    ghost invariant = { λ l. IsInStep K.ready K.place K.alien K.kept (records_of l.tables) l.tables.tree.rows l.keeper };
 }
 
 impl<K: Keeper> Library<K> {
@@ -54,6 +60,11 @@ impl<K: Keeper> Library<K> {
             ≡ kept_with (machine.step self.old.records caller command.now).change result (K.kept self.old.keeper) }
         ensures opens { (readings : Readings) → K.kept self.new.keeper ≡ Some readings
             → opened readings ≡ Ok self.new.records }
+
+        // An import that is accepted places its new words in the tree. All else leaves it.
+        ensures tree { let r = self.old.records in
+            GrowsBy r (machine.step r caller command.now).change result self.old.tree self.new.tree }
+        ensures words { HasWords self.new.tree self.new.records }
 
         // `journal_full` comes exactly where the records would change and there is no room for the change.
         ensures full { result ≡ Reply.Refused Refusal.JournalFull → (change : ChangeValue)
@@ -93,7 +104,7 @@ impl<K: Keeper> Library<K> {
                 },
             ) => match self.keeper.put(&change) {
                 Ok(()) => {
-                    self.tables.commit(plan);
+                    self.tables.commit(plan, steps);
                     reply
                 }
                 Err(fault) => {

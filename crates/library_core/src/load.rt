@@ -4,7 +4,8 @@ ghost use Rattle.media_base.specs.Keeping.{Readings, HasMore, next_place};
 ghost use Rattle.media_base.specs.declared.change.Change.{Change as ChangeValue};
 ghost use Rattle.library_machine.specs.Changes.{after_reading, command_of, opened};
 ghost use Rattle.library_machine.specs.Records.{Fits};
-ghost use Rattle.library_core.specs.Tables.{records_of};
+ghost use Rattle.vp_tree.specs.Building.{IsBuiltWhole};
+ghost use Rattle.library_core.specs.Tables.{HasWords, records_of};
 
 use crate::library::Library;
 use crate::load_fail::LoadFail;
@@ -31,6 +32,8 @@ fn command_from(change: Change) -> Command
         Change::File(file) => Command::Import(file),
         Change::Decision(decision) => Command::Decide(decision),
         Change::Undo(number) => Command::Undo(number),
+        Change::Distance(distance) => Command::SearchDistance(distance),
+        Change::Searched(searching) => Command::SearchFiles(searching),
     }
 }
 
@@ -56,6 +59,8 @@ fn take_next<K: Keeper, L: Ledger>(
     ensures same_alien { K.alien keeper.new ≡ K.alien keeper.old }
     ensures same_gives { K.gives keeper.new ≡ K.gives keeper.old }
     ensures same_kept { K.kept keeper.new ≡ K.kept keeper.old }
+    ensures same_limit { K.limit keeper.new ≡ K.limit keeper.old }
+    ensures same_units { K.units keeper.new ≡ K.units keeper.old }
 {
     let change = match keeper.next() {
         Ok(change) => change,
@@ -74,7 +79,7 @@ fn take_next<K: Keeper, L: Ledger>(
         ) => {
             drop(change);
             drop(reply);
-            tables.commit(plan);
+            tables.commit(plan, steps);
             Ok(())
         }
         Ok(Prepared::Told(_reply)) => Err(TakeFault::Bad),
@@ -93,6 +98,10 @@ impl<K: Keeper> Library<K> {
         ensures opened { (readings : Readings) → K.gives keeper ≡ Some readings
             → IfOk result (λ library. opened readings ≡ Ok library.records) }
         ensures fits { IfOk result (λ library. Fits library.records) }
+
+        // The tree is built of all words.
+        ensures words { IfOk result (λ library. HasWords library.tree library.records) }
+        ensures whole { IfOk result (λ library. IsBuiltWhole library.tree) }
         ensures bad { (readings : Readings) (n : ℕ) → K.gives keeper ≡ Some readings
             → IfErr result (λ fail. fail.0 ≡ LoadFail.BadStore n → opened readings ≡ Err n) }
 
@@ -104,9 +113,11 @@ impl<K: Keeper> Library<K> {
         ensures store { IfErr result (λ fail. fail.0 ≡ LoadFail.StoreFault
             → Rose (K.faults keeper) (K.faults fail.1)) }
 
-        // What is kept stays.
+        // What is kept stays, and how much room there is in all.
         ensures kept { IfOk result (λ library. K.kept library.keeper ≡ K.kept keeper) }
         ensures kept_fail { IfErr result (λ fail. K.kept fail.1 ≡ K.kept keeper) }
+        ensures same_limit { IfOk result (λ library. K.limit library.keeper ≡ K.limit keeper) }
+        ensures same_units { IfOk result (λ library. K.units library.keeper ≡ K.units keeper) }
     {
         let mut keeper = keeper;
         let count = match keeper.start() {
@@ -122,7 +133,10 @@ impl<K: Keeper> Library<K> {
                 Err(TakeFault::Bad) => return Err((LoadFail::BadStore(number), keeper)),
             }
         }
-        Ok(Library { tables, keeper })
+        match tables.build_tree(steps) {
+            Ok(()) => Ok(Library { tables, keeper }),
+            Err(_want) => Err((LoadFail::NoMemory, keeper)),
+        }
     }
 
     /// Hands the keeper back and opens the library again: the records are the same, or a fault has its cause.
@@ -133,6 +147,7 @@ impl<K: Keeper> Library<K> {
     ) -> Result<Library<K>, (LoadFail, K)>
         ensures same { (readings : Readings) → K.kept self.keeper ≡ Some readings
             → IfOk result (λ library. library.records ≡ self.records) }
+        ensures whole { IfOk result (λ library. IsBuiltWhole library.tree) }
         ensures never_bad { (readings : Readings) → K.kept self.keeper ≡ Some readings
             → IfErr result (λ fail. (n : ℕ) → fail.0 ≢ LoadFail.BadStore n) }
         ensures never_alien { (readings : Readings) → K.kept self.keeper ≡ Some readings

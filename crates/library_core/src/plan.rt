@@ -1,11 +1,18 @@
 use file_records::ImportPlan;
-use media_base::{Change, Decision, DecisionNo, Refusal, Reply};
+use media_base::{Change, Decision, DecisionNo, FileList, Refusal, Reply, SearchDistance};
 use relation_groups::GroupPlan;
+use tree_upkeep::QueuePlan;
+use vp_tree::InsertPlan;
 
 /// A change of the tables that is ready to be made. Dropped, it changes nothing.
 #[derive(Drop)]
 pub enum TablesPlan {
-    Import(ImportPlan),
+    Import {
+        file: ImportPlan,
+        words: Vec<InsertPlan>,
+        /// Whether the file is to be searched.
+        queued: bool,
+    },
     Decide {
         decision: Decision,
         groups: GroupPlan,
@@ -13,6 +20,15 @@ pub enum TablesPlan {
     Undo {
         number: DecisionNo,
         groups: GroupPlan,
+    },
+    Distance {
+        distance: SearchDistance,
+        queue: QueuePlan,
+    },
+    /// The files are those whose searched distance rises.
+    Search {
+        files: FileList,
+        distance: SearchDistance,
     },
 }
 

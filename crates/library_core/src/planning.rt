@@ -6,6 +6,7 @@ ghost use Rattle.library_core.specs.Tables.{IsPrepared, records_of};
 use crate::numbers::all_files;
 use crate::plan::{Prepared, TablesPlan};
 use crate::tables::Tables;
+use crate::words::plan_words;
 use media_base::{
     Change, Command, Decision, DecisionNo, FileNo, ImportStatus, Imported, MAX_DECISIONS,
     MAX_FILES, NewFile, NoMemory, Refusal, Reply, Steps,
@@ -13,7 +14,7 @@ use media_base::{
 use std::sync::ledger::Ledger;
 
 impl Tables {
-    fn has_file(&self, file: FileNo) -> bool
+    pub(crate) fn has_file(&self, file: FileNo) -> bool
         ensures { result ≡ machine.has_file (records_of self.now) file }
     {
         file.0 < self.files.len()
@@ -37,6 +38,7 @@ impl Tables {
         steps: &mut Steps<L>,
     ) -> Result<Prepared, NoMemory>
         ensures records { records_of self.new ≡ records_of self.old }
+        ensures tree { self.new.tree.rows ≡ self.old.tree.rows }
         ensures prepared { let r = records_of self.old in
             IfOk result (IsPrepared (machine.step r callers.Console command.now) self.new) }
     {
@@ -45,6 +47,11 @@ impl Tables {
             Command::Decide(decision) => self.plan_decide(*decision, steps),
             Command::Undo(number) => self.plan_undo(*number, steps),
             Command::Relations(file) => self.tell_relations(*file),
+            Command::SearchDistance(distance) => self.plan_distance(*distance, steps),
+            Command::SearchJob(size) => self.plan_search_job(*size, steps),
+            Command::SearchFiles(searching) => self.plan_search_files(searching, steps),
+            Command::Queues => Ok(self.tell_queues()),
+            Command::RebalanceJob => Ok(Prepared::Told(Reply::Rebalanced)),
         }
     }
 
@@ -55,6 +62,7 @@ impl Tables {
         steps: &mut Steps<L>,
     ) -> Result<Prepared, NoMemory>
         ensures records { records_of self.new ≡ records_of self.old }
+        ensures tree { self.new.tree.rows ≡ self.old.tree.rows }
         ensures prepared { IfOk result (IsPrepared (machine.import (records_of self.old) file.now) self.new) }
     {
         if let Some(number) = self.files.find(&file.sha) {
@@ -71,9 +79,16 @@ impl Tables {
         let change = Change::File(file.copied(self.alloc)?);
         self.book.reserve(steps)?;
         self.groups.reserve_file()?;
-        let plan = self.files.plan_import(file)?;
+        self.upkeep.reserve()?;
+        let queued = !file.hashes.as_slice().is_empty();
+        let file = self.files.plan_import(file)?;
+        let words = plan_words(&mut self.tree, self.alloc, file.words())?;
         Ok(Prepared::Change {
-            plan: TablesPlan::Import(plan),
+            plan: TablesPlan::Import {
+                file,
+                words,
+                queued,
+            },
             change,
             reply: Reply::Imported(Imported {
                 file: FileNo(count),
@@ -89,6 +104,7 @@ impl Tables {
         steps: &mut Steps<L>,
     ) -> Result<Prepared, NoMemory>
         ensures records { records_of self.new ≡ records_of self.old }
+        ensures tree { self.new.tree.rows ≡ self.old.tree.rows }
         ensures prepared { IfOk result (IsPrepared (machine.decide (records_of self.old) decision) self.new) }
     {
         if !self.has_both(decision) {
@@ -102,6 +118,7 @@ impl Tables {
             return Ok(Refusal::FullDecisions.into());
         }
         library_machine::records_stay_fit();
+        decision_book::laws();
         self.book.reserve(steps)?;
         let Decision { code, a, b } = decision;
         let groups = self.groups.plan_decide(code, a, b, steps)?;
@@ -119,6 +136,7 @@ impl Tables {
         steps: &mut Steps<L>,
     ) -> Result<Prepared, NoMemory>
         ensures records { records_of self.new ≡ records_of self.old }
+        ensures tree { self.new.tree.rows ≡ self.old.tree.rows }
         ensures prepared { IfOk result (IsPrepared (machine.undo (records_of self.old) number) self.new) }
     {
         if number.0 >= self.book.len() {
@@ -130,6 +148,7 @@ impl Tables {
         let standing = self.book.standing_without(number, self.alloc)?;
         let files = all_files(self.alloc, self.files.len())?;
         library_machine::records_stay_fit();
+        decision_book::laws();
         relation_groups::laws();
         let groups = self.groups.plan_refold(&files, &standing, steps)?;
         Ok(Prepared::Change {

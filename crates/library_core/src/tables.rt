@@ -1,23 +1,36 @@
-ghost use Rattle.std.specs.Prelude.{◌≡◌};
+ghost use Rattle.std.specs.Prelude.{◌≡◌, [], OnOk};
+ghost use Rattle.vp_tree.specs.Building.{IsBuiltWhole};
+ghost use Rattle.vp_tree.specs.Placing.{ArePlaced};
 ghost use Rattle.library_machine.specs.Records.{Records, no_records};
-ghost use Rattle.library_core.specs.Tables.{Leads, records_of};
+ghost use Rattle.library_core.specs.Tables.{HasWords, Leads, LeadsImport, LeadsSearch, records_of, words_placed, words_planned};
 
 use crate::plan::TablesPlan;
+use crate::searching::note_searched;
+use crate::words::place_words;
 use decision_book::Book;
-use file_records::Files;
-use media_base::Decision;
+use file_records::{Files, ImportPlan};
+use media_base::{Decision, FileList, HashNo, NoMemory, SearchDistance, Steps};
 use relation_groups::Groups;
 use std::alloc::Global;
 use std::marker::Model;
+use std::sync::ledger::Ledger;
+use tree_upkeep::Upkeep;
+use vp_tree::{InsertPlan, Tree};
 
-/// The tables of a library: its files, its decisions, and the groups that the standing decisions make of
-/// the files. A change is planned first, which takes all memory, and then it can't be refused.
+/// The tables of a library: its files, its decisions, the groups that the standing decisions make of the
+/// files, the tree of their hashes, and the queue of those that are to be searched. A change is planned first, which takes all memory, and then it can't be refused.
 #[derive(Drop)]
 pub struct Tables {
     pub(crate) alloc: Global,
     pub(crate) files: Files,
     pub(crate) book: Book,
     pub(crate) groups: Groups,
+    /// The distinct hashes of the files.
+    pub(crate) tree: Tree,
+    /// The files that are to be searched.
+    pub(crate) upkeep: Upkeep,
+    /// Within which files are searched.
+    pub(crate) distance: SearchDistance,
 }
 
 impl Model for Tables {
@@ -25,35 +38,56 @@ impl Model for Tables {
 
     ghost Value = { TablesView };
 
-    ghost view = { λ t. record { files = t.files; book = t.book; groups = t.groups } };
+    ghost view = { λ t. record {
+      files = t.files;
+      book = t.book;
+      groups = t.groups;
+      tree = t.tree;
+      work = t.upkeep;
+      distance = t.distance;
+    } };
 
-    ghost invariant = { λ t. AreInStep (record { files = t.files; book = t.book; groups = t.groups }) };
+    ghost invariant = { λ t. AreInStep (record {
+      files = t.files;
+      book = t.book;
+      groups = t.groups;
+      tree = t.tree;
+      work = t.upkeep;
+      distance = t.distance;
+    }) };
 }
 
 impl Tables {
     /// Nothing is recorded. It takes no memory yet.
     pub fn new(alloc: Global) -> Tables
-        ensures { records_of result ≡ no_records }
+        ensures records { records_of result ≡ no_records }
+        ensures tree { result.tree.rows ≡ [] }
     {
+        library_machine::records_stay_fit();
         Tables {
             alloc,
             files: Files::new(alloc),
             book: Book::new(alloc),
             groups: Groups::new(alloc),
+            tree: Tree::new(alloc),
+            upkeep: Upkeep::new(alloc),
+            distance: SearchDistance::first(),
         }
     }
 
     /// Makes a planned change. It takes no memory.
-    pub fn commit(&mut self, plan: TablesPlan)
+    pub fn commit<L: Ledger>(&mut self, plan: TablesPlan, steps: &mut Steps<L>)
         requires { (after : Records) × Leads plan self.old after }
-        ensures { (after : Records) → Leads plan self.old after → records_of self.new ≡ after }
+        ensures records { (after : Records) → Leads plan self.old after → records_of self.new ≡ after }
+        ensures tree { ArePlaced self.old.tree.rows (words_placed plan) self.new.tree.rows }
+        ensures words { HasWords self.new.tree.rows (records_of self.new) }
     {
         match plan {
-            TablesPlan::Import(file) => {
-                let _number = self.files.commit_import(file);
-                self.book.add_file();
-                self.groups.add_file();
-            }
+            TablesPlan::Import {
+                file,
+                words,
+                queued,
+            } => self.commit_import(file, words, queued, steps),
             TablesPlan::Decide { decision, groups } => {
                 let Decision { code, a, b } = decision;
                 let _number = self.book.add(code, a, b);
@@ -63,16 +97,74 @@ impl Tables {
                 self.book.undo(number);
                 self.groups.commit(groups);
             }
+            TablesPlan::Distance { distance, queue } => {
+                self.upkeep.commit_queue(queue);
+                self.distance = distance;
+            }
+            TablesPlan::Search { files, distance } => self.commit_search(&files, distance),
         }
+    }
+
+    fn commit_import<L: Ledger>(
+        &mut self,
+        file: ImportPlan,
+        words: Vec<InsertPlan>,
+        queued: bool,
+        steps: &mut Steps<L>,
+    )
+        requires { (after : Records) × LeadsImport file words.items queued self.old after }
+        ensures records { (after : Records) → LeadsImport file words.items queued self.old after
+            → records_of self.new ≡ after }
+        ensures tree { ArePlaced self.old.tree.rows (words_planned words.items) self.new.tree.rows }
+        ensures words { HasWords self.new.tree.rows (records_of self.new) }
+    {
+        file_records::search_laws();
+        tree_upkeep::laws();
+        let number = self.files.commit_import(file);
+        self.book.add_file();
+        self.groups.add_file();
+        place_words(&mut self.tree, words, steps);
+        self.upkeep.note(number, queued);
+    }
+
+    fn commit_search(&mut self, found: &FileList, distance: SearchDistance)
+        requires { (after : Records) × LeadsSearch found.now distance self.old after }
+        ensures records { (after : Records) → LeadsSearch found.now distance self.old after
+            → records_of self.new ≡ after }
+        ensures tree { self.new.tree.rows ≡ self.old.tree.rows }
+        ensures words { HasWords self.new.tree.rows (records_of self.new) }
+    {
+        file_records::search_laws();
+        let library = self.distance;
+        let found = found.as_slice();
+        note_searched(&mut self.files, &mut self.upkeep, found, distance, library);
     }
 
     /// Gives a planned change up.
     pub fn withdraw(&mut self, plan: TablesPlan)
-        ensures { records_of self.new ≡ records_of self.old }
+        ensures records { records_of self.new ≡ records_of self.old }
+        ensures tree { self.new.tree.rows ≡ self.old.tree.rows }
     {
         match plan {
-            TablesPlan::Import(file) => self.files.withdraw(file),
-            TablesPlan::Decide { .. } | TablesPlan::Undo { .. } => {}
+            TablesPlan::Import { file, .. } => self.files.withdraw(file),
+            TablesPlan::Decide { .. }
+            | TablesPlan::Undo { .. }
+            | TablesPlan::Distance { .. }
+            | TablesPlan::Search { .. } => {}
         }
+    }
+
+    /// Builds the tree of all words anew.
+    pub fn build_tree<L: Ledger>(&mut self, steps: &mut Steps<L>) -> Result<(), NoMemory>
+        ensures records { records_of self.new ≡ records_of self.old }
+        ensures whole { OnOk result (IsBuiltWhole self.new.tree.rows) }
+        ensures words { HasWords self.new.tree.rows (records_of self.new) }
+    {
+        if self.tree.len() == 0 {
+            return Ok(());
+        }
+        let plan = self.tree.plan_build(HashNo(0), steps)?;
+        self.tree.commit_build(plan);
+        Ok(())
     }
 }

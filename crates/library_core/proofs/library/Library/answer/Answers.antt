@@ -1,10 +1,16 @@
-use Rattle.std.proofs.Common.{◌≡◌, Some, sym, subst, ap, ◌∙◌}
+use Rattle.std.proofs.Common.{◌≡◌, List, Some, sym, subst, ap, ◌∙◌}
+use Rattle.media_base.specs.declared.command.Caller.{Caller}
 use Rattle.media_base.specs.declared.command.Caller.TheVariants.{Console}
 use Rattle.media_base.specs.Keeping.{HasGivenAll}
 use Rattle.library_machine.specs.Changes.{after_change}
-use Rattle.library_machine.specs.Records.{Fits}
-use Rattle.library_core.specs.Tables.{records_of}
+use Rattle.library_machine.specs.Records.{Fits, Records}
+use Rattle.library_machine.specs.Step.{step}
+use Rattle.vp_tree.specs.declared.node.NodeView.{NodeView}
+use Rattle.vp_tree.specs.Placing.{ArePlaced}
+use Rattle.library_core.specs.Keeping.{GrowsBy, LibraryView}
+use Rattle.library_core.specs.Tables.{records_of, words_brought, words_placed}
 use Rattle.library_core.proofs.Opened.{opens_more}
+use Rattle.library_core.proofs.Growing.{grows, the_console}
 use Rattle.library_core.proofs.library.Library.answer.Goals as goal
 
 pub returns-in-Ok-Told-clause-not_kept : goal.returns-in-Ok-Told-clause-not_kept
@@ -18,10 +24,11 @@ invariant_of-self-in-Ok g c =
     let command = c.args.command.now in
     let change = c.in-Ok-Change.change in
     let prepared = rw c.in-Ok-Change.field-0-is at c.in-Ok-Change.ensures.prepared in
-    let after = c.commit.ensures _ prepared.2 in
+    let after = c.commit.ensures.records _ prepared.2 in
     let leads : after_change r change ≡ Some (records_of c.commit.new.self) =
     c.changes_are_kept.ensures.lead r Console command change prepared.0 ∙ ap Some (sym after) in
     record {
+      words = c.commit.ensures.words;
       fits = subst Fits (sym after) (c.records_stay_fit.ensures.after_a_step r Console command c.self.invariant.fits);
       is_ready = c.in-Ok.ensures.still_ready;
       all_given = subst HasGivenAll (sym c.in-Ok.ensures.same_place) c.self.invariant.all_given;
@@ -35,7 +42,20 @@ returns-in-Ok-clause-opens g c =
     let command = c.args.command.now in
     let change = c.in-Ok-Change.change in
     let prepared = rw c.in-Ok-Change.field-0-is at c.in-Ok-Change.ensures.prepared in
-    let after = c.commit.ensures _ prepared.2 in
+    let after = c.commit.ensures.records _ prepared.2 in
     let leads : after_change r change ≡ Some (records_of c.commit.new.self) =
     c.changes_are_kept.ensures.lead r Console command change prepared.0 ∙ ap Some (sym after) in
     opens_more _ _ r _ change c.in-Ok.ensures.ok leads c.self.invariant.opens
+
+pub returns-in-Ok-clause-tree : goal.returns-in-Ok-clause-tree
+returns-in-Ok-clause-tree g c =
+    let r = records_of c.self.inside.tables in
+    let command = c.args.command.now in
+    let change = c.in-Ok-Change.change in
+    let reply = c.in-Ok-Change.reply in
+    let prepared = rw c.in-Ok-Change.field-0-is at c.in-Ok-Change.ensures.prepared in
+    let brought = prepared.3 ∙ ap (λ (r : Records). words_brought r (Some change)) c.plan.ensures.records in
+    let placed = subst (λ (old : List NodeView). ArePlaced old (words_placed c.in-Ok-Change.plan) c.commit.new.self.tree.rows) c.plan.ensures.tree c.commit.ensures.tree in
+    subst (λ (caller : Caller). GrowsBy c.args.self.now.records (step c.args.self.now.records caller command).change reply c.args.self.now.tree c.commit.new.self.tree.rows) (the_console c.args.caller)
+    (subst (λ (l : LibraryView g.row.K.Denot). GrowsBy l.records (step l.records Console command).change reply l.tree c.commit.new.self.tree.rows) c.self.view_is
+    (grows c.refusals_change_nothing.ensures.in_a_step c.changes_are_kept.ensures.told r command change reply _ _ _ prepared.0 prepared.1 brought placed))

@@ -1,4 +1,4 @@
-use Rattle.std.proofs.Common.{◌≡◌, ◌<◌, Err, length, option_map, arith, sym, subst, ap, ◌∙◌}
+use Rattle.std.proofs.Common.{◌≡◌, ◌<◌, Ok, Err, length, option_map, arith, sym, subst, ap, ◌∙◌}
 use Rattle.media_base.specs.Keeping.{next_place}
 use Rattle.library_machine.specs.Records.{Fits}
 use Rattle.library_core.specs.Tables.{TablesView, records_of}
@@ -24,6 +24,8 @@ loop-number-preserved g c =
       place = c.in-Ok-take_next.ensures.place ∙ ap (option_map next_place) l.invariant.place;
       gives = c.in-Ok-take_next.ensures.same_gives ∙ l.invariant.gives;
       kept = c.in-Ok-take_next.ensures.same_kept ∙ l.invariant.kept;
+      limit = c.in-Ok-take_next.ensures.same_limit ∙ l.invariant.limit;
+      units = c.in-Ok-take_next.ensures.same_units ∙ l.invariant.units;
       alien = c.in-Ok-take_next.ensures.same_alien ∙ l.invariant.alien;
       own = l.invariant.own;
       later = omega (arith, l.invariant.later, c.in-Ok-take_next.ensures.cause.later);
@@ -42,7 +44,8 @@ invariant_of-result g c =
     let l = c.loop-number in
     let ended : l.number ≡ c.in-Ok.count = omega (arith, c.loop-number-test.false, l.auto.number-end) in
     record {
-      fits = l.invariant.fits;
+      words = c.build_tree.ensures.words;
+      fits = subst Fits (sym c.build_tree.ensures.records) l.invariant.fits;
       is_ready = l.invariant.ready;
       all_given = rw l.invariant.place ended;
       own = rw l.invariant.alien l.invariant.own;
@@ -50,5 +53,6 @@ invariant_of-result g c =
           let gives = g.met.K.Keeper.kept_is_given _ readings kept in
           let given = sym l.invariant.gives ∙ gives in
           let all = l.invariant.told readings given in
-          sym (l.invariant.so_far readings given) ∙ opened_end l.number _ readings (omega (arith, ended, all));
+          sym (l.invariant.so_far readings given) ∙ opened_end l.number _ readings (omega (arith, ended, all))
+          ∙ ap Ok (sym c.build_tree.ensures.records);
     }

@@ -11,6 +11,8 @@ invariant-loop-number g l = record {
   place : g.K.Keeper.place l.keeper ≡ Some (l.number, l.count);
   gives : g.K.Keeper.gives l.keeper ≡ g.K.Keeper.gives l.fn.keeper;
   kept : g.K.Keeper.kept l.keeper ≡ g.K.Keeper.kept l.fn.keeper;
+  limit : g.K.Keeper.limit l.keeper ≡ g.K.Keeper.limit l.fn.keeper;
+  units : g.K.Keeper.units l.keeper ≡ g.K.Keeper.units l.fn.keeper;
   alien : g.K.Keeper.alien l.keeper ≡ g.K.Keeper.alien l.fn.keeper;
   own : g.K.Keeper.alien l.fn.keeper ≢ Some true;
   later : g.K.Keeper.faults l.fn.keeper ≤ g.K.Keeper.faults l.keeper;

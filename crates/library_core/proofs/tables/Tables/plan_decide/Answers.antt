@@ -12,10 +12,10 @@ use Rattle.library_core.proofs.tables.Tables.plan_decide.Goals as goal
 pub returns-clause-prepared : goal.returns-clause-prepared
 returns-clause-prepared g c =
     let d = c.args.decision in
-    let new : TablesView = record { files = c.self.inside.files; book = c.reserve.new.self; groups = c.plan_decide.new.self } in
+    let new : TablesView = record { files = c.self.inside.files; book = c.reserve.new.self; groups = c.plan_decide.new.self; tree = c.self.inside.tree; work = c.self.inside.upkeep; distance = c.self.inside.distance } in
     let done = prepared.Change (plans.Decide d c.in_ok-groups.groups) (changes.Decision d) (replies.Decided (record { 0 = c.len-count.result })) in
     subst (λ (t : TablesView). IsPrepared (decide (records_of t) d) new done) c.self.view_is
-    (decide_prepared _ _ _ c.args.decision _ _ c.records_stay_fit.ensures.after_a_step c.self.invariant
+    (decide_prepared c.laws.ensures.one_more _ _ _ c.args.decision _ _ c.records_stay_fit.ensures.after_a_step c.self.invariant
     c.in_ok-reserve.ensures.rows c.in_ok-reserve.ensures.ok c.plan_decide.ensures.same
     (subst (λ (t : TablesView). (has_file (records_of t) c.args.decision.a && has_file (records_of t) c.args.decision.b) ≡ true) (sym c.self.view_is) (sym c.if-not-has_both.ensures))
     (sym c.if-eq.ensures) (lt-ltb _ _ (omega (arith, c.len-count.ensures.rows))) c.len-count.ensures.rows

@@ -11,7 +11,7 @@ use Rattle.library_core.specs.Tables.{TablesView, IsPrepared, records_of}
 use Rattle.library_core.specs.declared.plan.Prepared.TheVariants as prepared
 use Rattle.library_core.specs.declared.plan.TablesPlan.TheVariants as plans
 use Rattle.library_core.proofs.Preparing.{undo_prepared}
-use Rattle.library_core.proofs.Refolding.{file_of, files_known, all_within, all_split, all_anew, standing_among, left_among, few_left}
+use Rattle.library_core.proofs.Refolding.{file_of, files_known, all_within, all_split, all_anew, standing_among, left_among, left_of_two}
 use Rattle.library_core.proofs.tables.Tables.plan_undo.Goals as goal
 
 pub plan_refold-requires-clause-known : goal.plan_refold-requires-clause-known
@@ -25,20 +25,26 @@ plan_refold-requires-clause-few_files g c =
 
 pub plan_refold-requires-clause-few_decisions : goal.plan_refold-requires-clause-few_decisions
 plan_refold-requires-clause-few_decisions g c =
-    let few = few_left c.args.number.0 c.self.inside.book.rows in
-    rw c.in_ok-standing.ensures (omega (arith, few, c.self.invariant.fits.few_decisions))
+    let few = c.laws.ensures.few_stand (undone_at c.args.number.0 c.self.inside.book.rows) in
+    let same = c.laws.ensures.undoing_keeps_length c.args.number.0 c.self.inside.book.rows in
+    rw c.in_ok-standing.ensures (omega (arith, few, same, c.self.invariant.fits.few_decisions))
+
+pub plan_refold-requires-clause-two : goal.plan_refold-requires-clause-two
+plan_refold-requires-clause-two g c =
+    rw c.in_ok-standing.ensures
+    (left_of_two c.laws.ensures.all_recorded c.laws.ensures.undoing_keeps_decisions c.args.number.0 c.self.inside.book.rows c.self.invariant.fits.of_two)
 
 pub plan_refold-requires-clause-within : goal.plan_refold-requires-clause-within
 plan_refold-requires-clause-within g c =
     let m = length c.self.inside.files.rows in
     rw (c.in_ok-files.ensures, c.len-2.ensures.rows, c.in_ok-standing.ensures)
-    (all_within m _ (left_among c.args.number.0 m c.self.inside.book.rows c.self.invariant.fits.among))
+    (all_within m _ (left_among c.laws.ensures.all_recorded c.laws.ensures.undoing_keeps_decisions c.args.number.0 m c.self.inside.book.rows c.self.invariant.fits.among))
 
 pub plan_refold-requires-clause-closed : goal.plan_refold-requires-clause-closed
 plan_refold-requires-clause-closed g c =
     let m = length c.self.inside.files.rows in
     rw (c.in_ok-files.ensures, c.len-2.ensures.rows, c.self.invariant.related)
-    (all_split c.laws.ensures.split m _ (standing_among m c.self.inside.book.rows c.self.invariant.fits.among))
+    (all_split c.laws-2.ensures.split m _ (standing_among c.laws.ensures.all_recorded m c.self.inside.book.rows c.self.invariant.fits.among))
 
 pub returns-clause-prepared : goal.returns-clause-prepared
 returns-clause-prepared g c =
@@ -46,12 +52,12 @@ returns-clause-prepared g c =
     let m = length c.self.inside.files.rows in
     let rows = c.self.inside.book.rows in
     let among = c.self.invariant.fits.among in
-    let new : TablesView = record { files = c.self.inside.files; book = c.self.inside.book; groups = c.plan_refold.new.self } in
+    let new : TablesView = record { files = c.self.inside.files; book = c.self.inside.book; groups = c.plan_refold.new.self; tree = c.self.inside.tree; work = c.self.inside.upkeep; distance = c.self.inside.distance } in
     let done = prepared.Change (plans.Undo n c.in_ok-groups.groups) (changes.Undo n) (replies.Undone n) in
     let anew : relations_after c.in_ok-groups.groups c.plan_refold.new.self ≡ relations (standing (undone_at n.0 rows)) =
     c.in_ok-groups.ensures.after
     ∙ rw (c.in_ok-files.ensures, c.len-2.ensures.rows, c.in_ok-standing.ensures, c.self.invariant.related)
-    (all_anew c.laws.ensures.others_stay m _ _ (standing_among m rows among) (left_among n.0 m rows among)) in
+    (all_anew c.laws-2.ensures.others_stay m _ _ (standing_among c.laws.ensures.all_recorded m rows among) (left_among c.laws.ensures.all_recorded c.laws.ensures.undoing_keeps_decisions n.0 m rows among)) in
     subst (λ (t : TablesView). IsPrepared (undo (records_of t) n) new done) c.self.view_is
     (undo_prepared _ c.plan_refold.new.self n c.row.result c.in_ok-groups.groups c.records_stay_fit.ensures.after_a_step c.self.invariant
     c.row.ensures.row c.if-row.false c.in_ok-groups.ensures.fits anew)

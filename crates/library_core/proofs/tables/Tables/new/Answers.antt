@@ -1,0 +1,13 @@
+use Rattle.std.proofs.Common.{refl, sym}
+use Rattle.library_core.proofs.Committing.{no_words, no_queue}
+use Rattle.library_core.proofs.tables.Tables.new.Goals as goal
+
+pub invariant_of-result : goal.invariant_of-result
+invariant_of-result c = record {
+  fits = rw (c.new.ensures.rows, c.new-2.ensures.rows, c.first.ensures) c.records_stay_fit.ensures.at_first;
+  decided = rw (c.new.ensures.rows, c.new-2.ensures.files) refl;
+  grouped = rw (c.new.ensures.rows, c.new-3.ensures.size) refl;
+  related = rw (c.new-2.ensures.rows, c.new-3.ensures.relations) refl;
+  words = rw (c.new.ensures.rows, c.new-4.ensures) (sym no_words);
+  queued = rw (c.new.ensures.rows, c.new-5.ensures.queue) (sym (no_queue c.first.result));
+}
