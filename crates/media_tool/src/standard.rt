@@ -1,7 +1,7 @@
 //! The adapters over the standard streams: the trusted edge. They tell no content of their own; their
 //! contracts say that they pass on what a stream tells, and the system's streams tell nothing.
 
-ghost use Rattle.std.specs.Prelude.{◌≡◌, ◌<◌, length, None};
+ghost use Rattle.std.specs.Prelude.{◌≡◌, ◌<◌, length, None, OnOk};
 ghost use Rattle.std.specs.Io.KnownBytes.{ReadConsumes, WriteAppends};
 ghost use Rattle.media_types.specs.Cause.{HasCause, failed};
 ghost use Rattle.media_base.specs.Transfer.{Reads, Writes};
@@ -36,6 +36,7 @@ impl<R: Read + Drop> Source for StdSource<R> {
     fn read(&mut self, into: &mut [u8]) -> Result<usize, Failed>
         requires { 0 < length into.old }
         ensures cause { HasCause self.old.faults self.new.faults failed result }
+        ensures quiet { OnOk result (self.new.faults ≡ self.old.faults) }
         ensures reads { Reads None None into.new result }
         ensures bytes { ReadConsumes (R.remaining self.old.reader) (R.remaining self.new.reader) result into.new }
     {
@@ -78,6 +79,7 @@ impl<W: Write + Drop> Sink for StdSink<W> {
     /// what the sink says that it took, where the writer tells that.
     fn write(&mut self, piece: &[u8]) -> Result<usize, Failed>
         ensures cause { HasCause self.old.faults self.new.faults failed result }
+        ensures quiet { OnOk result (self.new.faults ≡ self.old.faults) }
         ensures writes { Writes None None piece.now result }
         ensures bytes { WriteAppends (W.contents self.old.writer) (W.contents self.new.writer) result piece.now }
     {

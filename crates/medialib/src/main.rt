@@ -49,6 +49,21 @@ fn run_counted<R: Read + Drop, W: Write + Drop, L: Ledger>(
     status
 }
 
+// What a person who reads the status may want to know.
+fn meaning_of(status: Status) -> &'static str {
+    match status {
+        Status::Done => "all of the input was answered",
+        Status::Usage => "usage: medialib play -",
+        Status::ReadFault => "reading standard input failed",
+        Status::WriteFault => "writing to standard output failed",
+        Status::StoreFault => "what keeps the changes failed",
+        Status::NoMemory => "there was no memory to go on",
+        Status::InputTooLong => "the input has more than 1,073,741,824 bytes",
+        Status::BadStore(_) => "a kept change can't be read, or isn't allowed at its place",
+        Status::AlienStore => "what should keep the changes belongs to something else",
+    }
+}
+
 fn main(rt: HostRuntime) -> ExitCode {
     let alloc = rt.alloc();
     let status = match words_of(&rt) {
@@ -64,7 +79,8 @@ fn main(rt: HostRuntime) -> ExitCode {
     };
     let number = status.number();
     if number != 0 {
-        let _ = eprintln!(rt; "medialib: status {number}");
+        let meaning = meaning_of(status);
+        let _ = eprintln!(rt; "medialib: status {number}: {meaning}");
     }
     ExitCode::from(number)
 }

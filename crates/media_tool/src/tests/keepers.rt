@@ -239,3 +239,38 @@ fn what_one_session_kept_opens_the_next(rt: HostRuntime) -> Result<(), Fail> {
     }
     Ok(())
 }
+
+// Searched distances, the distance and the queue are those of the first session.
+#[test]
+fn a_search_goes_on_in_the_next_session(rt: HostRuntime) -> Result<(), Fail> {
+    let alloc = rt.alloc();
+    let empty = keeper_of(alloc, ChangeList::new(alloc), 0, 100)?;
+    let lines = [
+        Line::Hashed(0, 0xaa),
+        Line::Hashed(1, 0xaa),
+        Line::Text("{\"do\":\"search_job\",\"n\":1}\n"),
+        Line::Text("{\"do\":\"search_distance\",\"distance\":9}\n"),
+        Line::Text("{\"do\":\"search_files\",\"files\":[1],\"distance\":10}\n"),
+    ];
+    let first = played_over(&rt, alloc, &lines, empty, 0)?;
+    let [new, other, _, _] = FOUR_REPLIES;
+    let searched = "{\"searched\":1,\"left\":1}\n";
+    let replies = [new, other, searched, "{\"distance\":9}\n", searched];
+    first.assert(&rt, Status::Done, &replies, 5);
+    let asked = [
+        Line::Text("{\"do\":\"queues\"}\n"),
+        Line::Text("{\"do\":\"search_distance\",\"distance\":9}\n"),
+        Line::Text("{\"do\":\"search_job\",\"n\":5}\n"),
+    ];
+    played_over(&rt, alloc, &asked, first.keeper, 0)?.assert(
+        &rt,
+        Status::Done,
+        &[
+            "{\"search\":1,\"display\":0}\n",
+            "{\"distance\":9}\n",
+            "{\"searched\":1,\"left\":0}\n",
+        ],
+        6,
+    );
+    Ok(())
+}

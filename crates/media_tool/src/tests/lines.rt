@@ -38,6 +38,8 @@ impl Code {
 pub enum Line {
     /// The import of the file whose SHA-256 is this number.
     Import(u32),
+    /// The same with this hash.
+    Hashed(u32, u64),
     Decide(Code, u32, u32),
     Undo(u32),
     Relations(u32),
@@ -50,6 +52,10 @@ impl Line {
             Line::Import(sha) => writeln!(
                 input,
                 "{{\"do\":\"import\",\"sha256\":\"{sha:064x}\",\"hashes\":[],\"size\":1,\"width\":1,\"height\":1}}"
+            ),
+            Line::Hashed(sha, hash) => writeln!(
+                input,
+                "{{\"do\":\"import\",\"sha256\":\"{sha:064x}\",\"hashes\":[\"{hash:016X}\"],\"size\":1,\"width\":1,\"height\":1}}"
             ),
             Line::Decide(code, a, b) => {
                 let code = code.number();

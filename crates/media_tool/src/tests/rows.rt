@@ -1,7 +1,7 @@
 //! Worked sessions: each line with its reply.
 
 use crate::tests::lines::Code::{Alternates, Better, NotRelated, Same, Worse};
-use crate::tests::lines::Line::{self, Decide, Import, Relations, Text, Undo};
+use crate::tests::lines::Line::{self, Decide, Hashed, Import, Relations, Text, Undo};
 use crate::tests::playing::Manner;
 use crate::tests::scripts::Script;
 use std::test::Fail;
@@ -18,6 +18,8 @@ const DECISION_0: &str = r#"{"decision":0}"#;
 const DECISION_1: &str = r#"{"decision":1}"#;
 
 const DECISION_2: &str = r#"{"decision":2}"#;
+
+const QUEUES: &str = "{\"do\":\"queues\"}\n";
 
 const UNKNOWN_FILE: &str = r#"{"error":"unknown_file"}"#;
 
@@ -180,9 +182,80 @@ const OTHERS: [Case; 4] = [
     },
 ];
 
+// Files 0 and 1 with the hash aa.
+const SEARCHES: [Case; 2] = [
+    Case {
+        shows: "the queue by distance",
+        files: 0,
+        rows: &[
+            (Hashed(0, 0xaa), r#"{"file":0,"status":1}"#),
+            (Hashed(1, 0xaa), r#"{"file":1,"status":1}"#),
+            (Text(QUEUES), r#"{"search":2,"display":0}"#),
+            (
+                Text("{\"do\":\"search_job\",\"n\":1}\n"),
+                r#"{"searched":1,"left":1}"#,
+            ),
+            (
+                Text("{\"do\":\"search_files\",\"files\":[1,1],\"distance\":3}\n"),
+                r#"{"searched":1,"left":1}"#,
+            ),
+            (
+                Text("{\"do\":\"search_files\",\"files\":[1],\"distance\":2}\n"),
+                r#"{"searched":0,"left":1}"#,
+            ),
+            (
+                Text("{\"do\":\"search_job\",\"n\":5}\n"),
+                r#"{"searched":1,"left":0}"#,
+            ),
+            (
+                Text("{\"do\":\"search_distance\",\"distance\":9}\n"),
+                r#"{"distance":9}"#,
+            ),
+            (Text(QUEUES), r#"{"search":2,"display":0}"#),
+        ],
+    },
+    Case {
+        shows: "searches that are refused, and a rebalance",
+        files: 1,
+        rows: &[
+            (Text(QUEUES), r#"{"search":0,"display":0}"#),
+            (
+                Text("{\"do\":\"search_files\",\"files\":[0,7],\"distance\":3}\n"),
+                UNKNOWN_FILE,
+            ),
+            (
+                Text("{\"do\":\"search_files\",\"files\":[],\"distance\":17}\n"),
+                r#"{"error":"bad_distance"}"#,
+            ),
+            (
+                Text("{\"do\":\"search_files\",\"files\":[],\"distance\":16}\n"),
+                r#"{"error":"bad_number"}"#,
+            ),
+            (
+                Text("{\"do\":\"search_job\",\"n\":1025}\n"),
+                r#"{"error":"bad_number"}"#,
+            ),
+            (
+                Text("{\"do\":\"search_job\",\"n\":1024}\n"),
+                r#"{"searched":0,"left":0}"#,
+            ),
+            (
+                Text("{\"do\":\"search_distance\"}\n"),
+                r#"{"error":"not_a_request","field":"distance"}"#,
+            ),
+            (Text("{\"do\":\"rebalance_job\"}\n"), r#"{"done":true}"#),
+        ],
+    },
+];
+
 #[test]
 fn sessions_are_answered(rt: HostRuntime) -> Result<(), Fail> {
-    for case in DUPLICATES.iter().chain(&UNDOINGS).chain(&OTHERS) {
+    for case in DUPLICATES
+        .iter()
+        .chain(&UNDOINGS)
+        .chain(&OTHERS)
+        .chain(&SEARCHES)
+    {
         let mut script = Script::with_files(rt.alloc(), case.files)?;
         for (line, reply) in case.rows {
             script.say(*line, reply)?;
