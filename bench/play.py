@@ -36,6 +36,22 @@ def imports(count):
     return "".join(import_line(number) for number in range(count))
 
 
+def hashed_imports(count):
+    """Each file has one hash of a fixed generator, and every tenth the hash of the file before."""
+    lines = []
+    word = 1
+    for number in range(count):
+        if number % 10 != 9:
+            word = (word * 6364136223846793005 + 1442695040888963407) % 2**64
+        lines.append(import_line(number).replace("[]", '["%016x"]' % word))
+    return "".join(lines)
+
+
+def searches(count):
+    """Jobs of 1,024 files until none waits."""
+    return '{"do":"search_job","n":1024}\n' * (count // 1024 + 1)
+
+
 def decisions(files, count):
     """Better decisions between neighbours: the groups are pairs, and every second round has no effect."""
     lines = []
@@ -109,6 +125,11 @@ def main():
         cases = {
             "imports": (imports(count), count),
             "twice the imports": (imports(2 * count), 2 * count),
+            "imports with hashes": (hashed_imports(count), count),
+            "imports with hashes, and their search jobs": (
+                hashed_imports(count) + searches(count),
+                count + count // 1024 + 1,
+            ),
             "decisions": (imports(decided) + decisions(decided, decided), 2 * decided),
             "twice the files and decisions": (
                 imports(2 * decided) + decisions(2 * decided, 2 * decided),
