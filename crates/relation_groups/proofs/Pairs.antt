@@ -9,7 +9,7 @@ use Rattle.std.proofs.lemmas.List.Folds.{list_any-append}
 use Rattle.std.specs.List.{list_any, range_with_len}
 use Rattle.relation_groups.specs.Moves.{differ}
 use Rattle.relation_groups.specs.Numbers.{has, is_of, lacks}
-use Rattle.relation_groups.specs.Relations.{files}
+use Rattle.media_types.specs.Numbered.{files}
 use Rattle.relation_groups.proofs.Lists.{file}
 use Rattle.relation_groups.proofs.Writes.{get_or-set}
 

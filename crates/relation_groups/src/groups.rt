@@ -3,7 +3,8 @@ ghost use Rattle.media_types.specs.declared.limits.TheConstants.{MAX_DECISIONS, 
 ghost use Rattle.relation_groups.specs.Clusters.{IsSplitBy, IsWithin, is_one_of, patched};
 ghost use Rattle.relation_groups.specs.Laws.{AreOfTwo};
 ghost use Rattle.relation_groups.specs.Moves.{Marks, is_moved, move_to, moves};
-ghost use Rattle.relation_groups.specs.Reading.{size_of, relations_in, is_past, next_of, is_king_beside, names_unrelated, IsPlanFor, relations_after};
+ghost use Rattle.media_types.specs.Numbered.{is_past};
+ghost use Rattle.relation_groups.specs.Reading.{size_of, relations_in, next_of, is_king_beside, names_unrelated, IsPlanFor, relations_after};
 ghost use Rattle.relation_groups.specs.Relations.{Relations, at_first, by_code, class_of, of_one_group, relations, standing_of};
 
 use crate::draft::Draft;
