@@ -5,7 +5,8 @@ use Rattle.std.proofs.lemmas.List.Concat.{flat_map-append}
 use Rattle.std.proofs.lemmas.Nat.{xor_comm}
 use Rattle.media_types.specs.Distance.{distance_of}
 use Rattle.media_types.specs.declared.hash.Hash64.{Hash64}
-use Rattle.file_records.specs.Distances.{nearer, least, distances, least_distance}
+use Rattle.media_types.specs.Least.{least}
+use Rattle.file_records.specs.Distances.{nearer, distances, least_distance}
 
 -- ---- the lesser of two distances, in any order
 min_assoc : (a b c : ℕ) → min (min a b) c ≡ min a (min b c)

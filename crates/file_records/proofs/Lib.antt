@@ -1,8 +1,10 @@
 pub mod Ascending
 pub mod Distances
+pub mod Held
 pub mod Holders
 pub mod Listed
 pub mod Lookups
+pub mod Near
 pub mod Nexts
 pub mod Numbers
 pub mod Planning

@@ -15,14 +15,14 @@ use Rattle.file_records.proofs.Words.{by_test}
 pub among_kept : (words more : List Hash64) (word : Hash64) → is_among words word ≡ true → is_among (words ++ more) word ≡ true
 among_kept words more word there = list_any-append (λ w. w.0 == word.0) words more ∙ or_left _ _ there
 
-first_kept : (test : Hash64 → Bool) (words more : List Hash64) → list_any test words ≡ true →
+pub first_kept : (test : Hash64 → Bool) (words more : List Hash64) → list_any test words ≡ true →
     (position_or_len test (words ++ more) ≡ position_or_len test words) × (position_or_len test words < length words)
 first_kept test [] more there = absurd (cc)
 first_kept test (word ∷ words) more there = by_test (test word)
     (λ passes. rw passes (refl, omega arith))
     (λ fails. let rest = first_kept test words more (rw fails at there) in rw fails (ap (λ n. 1 + n) rest.0, omega (arith, rest.1)))
 
-there_at_first : (test : Hash64 → Bool) (words : List Hash64) → position_or_len test words < length words → position test words ≡ Some (position_or_len test words)
+pub there_at_first : (test : Hash64 → Bool) (words : List Hash64) → position_or_len test words < length words → position test words ≡ Some (position_or_len test words)
 there_at_first test words within = ap (λ b. cond b (Some (position_or_len test words)) None) (lt-ltb _ _ within)
 
 pub number_kept : (words more : List Hash64) (word : Hash64) → is_among words word ≡ true → number_of word (words ++ more) ≡ number_of word words

@@ -56,12 +56,12 @@ unfolding queue_of
 whole_queue d rows n all = ap (queue_below d rows) all
 
 -- ---- one more file
-place_before : (rows : List FileRow) (file : FileRow) (k : ℕ) → k < length rows → slice_get (rows ++ file ∷ []) k ≡ slice_get rows k
+pub place_before : (rows : List FileRow) (file : FileRow) (k : ℕ) → k < length rows → slice_get (rows ++ file ∷ []) k ≡ slice_get rows k
 place_before [] file k below = absurd (omega (arith, below))
 place_before (row ∷ rows) file zero below = refl
 place_before (row ∷ rows) file (suc k) below = place_before rows file k (omega (arith, below))
 
-last_place : (rows : List FileRow) (file : FileRow) → slice_get (rows ++ file ∷ []) (length rows) ≡ Some file
+pub last_place : (rows : List FileRow) (file : FileRow) → slice_get (rows ++ file ∷ []) (length rows) ≡ Some file
 last_place [] file = refl
 last_place (row ∷ rows) file = last_place rows file
 

@@ -5,6 +5,7 @@ use Rattle.std.specs.Option.{option_map, option_map_or}
 use Rattle.std.proofs.lemmas.Bool.{ltb-true, ltb-false, le-ltb, eq-eqb, ne_eqb, and_right, or_from}
 use Rattle.std.proofs.lemmas.List.Elements.{All-filter}
 use Rattle.std.proofs.lemmas.List.Folds.{list_any-append}
+use Rattle.std.proofs.lemmas.List.Kept.{AllPairs-filter}
 use Rattle.std.proofs.lemmas.Option.{same_Some, slice_get_past, slice_get_read}
 use Rattle.media_types.specs.Numbered.{files}
 use Rattle.media_types.specs.declared.hash.Hash64.{Hash64}
@@ -15,7 +16,7 @@ use Rattle.file_records.specs.Indexing.{AreHeld, IsSound}
 use Rattle.file_records.specs.Lookup.{AreDistinct}
 use Rattle.file_records.specs.Searching.{is_named, is_short_of, passes, raised, rising, searched, searched_from}
 use Rattle.file_records.specs.Words.{has_hash, has_number, new_words, words_of, words_with}
-use Rattle.file_records.proofs.Ascending.{file_of, files_known, filter_none, named_in_files, named_in_filter}
+use Rattle.file_records.proofs.Ascending.{Ascend, file_of, files_ascend, files_known, filter_none, named_in_files, named_in_filter}
 use Rattle.file_records.proofs.Listed.{row_read}
 use Rattle.file_records.proofs.Words.{by_test}
 
@@ -154,6 +155,11 @@ changes d named rows = (
   λ nothing. sym (enough d named rows) ∙ ap (λ fs. searched d fs rows) nothing ∙ none d rows,
   nothing_rises d named rows,
 )
+
+pub rising_ascends : (d : ℕ) (named : List FileNo) (rows : List FileRow) → Ascend (rising d named rows)
+unfolding rising
+rising_ascends d named rows =
+    AllPairs-filter (λ a b. a.0 < b.0) (λ f. is_named named f.0 && passes (is_short_of d) rows f.0) (files (length rows)) (files_ascend (length rows))
 
 pub known : (d : ℕ) (named : List FileNo) (rows : List FileRow) → All (λ f. f.0 < length rows) (rising d named rows)
 unfolding rising

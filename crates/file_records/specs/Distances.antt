@@ -1,18 +1,14 @@
 -- The distance of two files: the least over their hashes.
-use Rattle.std.specs.Prelude.{ℕ, min, List, [], ◌∷◌, map, Option, Some, None}
+use Rattle.std.specs.Prelude.{ℕ, List, map, Option, Some, None}
 use Rattle.std.specs.List.{flat_map}
-use Rattle.std.specs.Option.{option_map_or}
+use Rattle.media_types.specs.Least.{least, lesser}
 use Rattle.media_types.specs.Distance.{distance_of}
 use Rattle.media_types.specs.declared.hash.Hash64.{Hash64}
 
 -- the lesser of two distances, of which either may be none
 abbrev pub nearer : Option ℕ → Option ℕ → Option ℕ
 nearer None b = b
-nearer (Some a) b = Some (option_map_or (min a) b a)
-
-abbrev pub least : List ℕ → Option ℕ
-least [] = None
-least (n ∷ ns) = nearer (Some n) (least ns)
+nearer (Some a) b = lesser a b
 
 -- of each hash of the one file to each of the other
 abbrev pub distances : List Hash64 → List Hash64 → List ℕ

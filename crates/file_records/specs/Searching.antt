@@ -1,6 +1,6 @@
 -- How far the duplicates of files were searched, and which files are to be searched.
-use Rattle.std.specs.Prelude.{ℕ, suc, Bool, true, false, ◌==◌, ◌&&◌, if◌then◌else◌, nat_lt, List, [], ◌∷◌, length, filter, slice_get, max, Some}
-use Rattle.std.specs.List.{list_any}
+use Rattle.std.specs.Prelude.{ℕ, suc, Bool, true, false, ◌==◌, ◌&&◌, if◌then◌else◌, nat_le, nat_lt, not, List, [], ◌∷◌, length, filter, slice_get, max, Some}
+use Rattle.std.specs.List.{list_any, range_with_len}
 use Rattle.std.specs.Option.{option_map_or}
 use Rattle.media_types.specs.Numbered.{files}
 use Rattle.media_types.specs.declared.numbers.FileNo.{FileNo}
@@ -17,6 +17,14 @@ is_queued d row = row.live && (nat_lt 0 (length row.hashes) && is_short_of d row
 -- the file of number k is there and passes the test
 abbrev pub passes : (FileRow → Bool) → List FileRow → ℕ → Bool
 passes test rows k = option_map_or test (slice_get rows k) false
+
+-- it was searched within d or farther
+abbrev pub reaches : ℕ → FileRow → Bool
+reaches d row = option_map_or (nat_le d) row.searched false
+
+-- the numbers of the deleted files, ascending
+abbrev pub deleted : List FileRow → List ℕ
+deleted rows = filter (passes (λ row. not row.live) rows) (range_with_len 0 (length rows))
 
 -- the files that are to be searched within d, ascending
 unfoldable pub queue_of : ℕ → List FileRow → List FileNo

@@ -4,7 +4,8 @@ ghost use Rattle.media_types.specs.Distance.{distance_of};
 ghost use Rattle.media_types.specs.Numbered.{is_past};
 ghost use Rattle.media_types.specs.declared.limits.TheConstants.{MAX_FILES};
 ghost use Rattle.file_records.specs.declared.file_row.FileRow.{FileRow as Row};
-ghost use Rattle.file_records.specs.Distances.{least, least_distance, nearer};
+ghost use Rattle.media_types.specs.Least.{least};
+ghost use Rattle.file_records.specs.Distances.{least_distance, nearer};
 ghost use Rattle.file_records.specs.Words.{new_words, next_with, number_of, words_of};
 
 use crate::files::Files;

@@ -13,7 +13,7 @@ pub use file_row::FileRow;
 pub use files::Files;
 pub use import_plan::ImportPlan;
 pub use media_types::NewFile;
-pub use theorems::{hash_laws, laws, search_laws};
+pub use theorems::{hash_laws, laws, near_laws, search_laws};
 
 #[cfg(test)]
 mod tests;

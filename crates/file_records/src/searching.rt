@@ -30,6 +30,7 @@ impl Files {
     ) -> Result<FileList, NoMemory>
         requires { All (λ f. f.0 < length self.now.rows) named.now }
         ensures files { IfOk result (λ files. files ≡ rising within named.now self.now.rows) }
+        ensures few { IfOk result (λ files. length files ≤ length named.now) }
         ensures reads { steps.new ≤ steps.old + length named.now }
     {
         let mut files = Vec::from_slice(self.alloc, named)?;

@@ -1,4 +1,4 @@
-ghost use Rattle.std.specs.Prelude.{◌≡◌, ◌≢◌, ◌↔◌, ◌<◌, ◌≤◌, ◌+◌, ℕ, not, if◌then◌else◌, List, [], ◌∷◌, ◌++◌, length, filter, None, All, slice_get};
+ghost use Rattle.std.specs.Prelude.{◌≡◌, ◌≢◌, ◌↔◌, ◌<◌, ◌≤◌, ◌+◌, ◌&&◌, ℕ, true, not, if◌then◌else◌, List, [], ◌∷◌, ◌++◌, length, filter, None, Some, All, Contains, slice_get};
 ghost use Rattle.std.specs.List.{AllPairs};
 ghost use Rattle.std.specs.Option.{option_map};
 ghost use Rattle.media_types.specs.declared.hash.Hash64.{Hash64};
@@ -7,8 +7,9 @@ ghost use Rattle.media_types.specs.declared.numbers.FileNo.{FileNo};
 ghost use Rattle.file_records.specs.declared.file_row.FileRow.{FileRow as Row};
 ghost use Rattle.file_records.specs.Distances.{least_distance};
 ghost use Rattle.file_records.specs.Lookup.{AreDistinct, IsUnknown, file_with};
-ghost use Rattle.file_records.specs.Searching.{is_named, is_queued, passes, queue_of, raised, rising, searched};
-ghost use Rattle.file_records.specs.Words.{AreDistinctWords, new_words, words_of};
+ghost use Rattle.file_records.specs.Near.{hashes_at, near_at, near_pairs};
+ghost use Rattle.file_records.specs.Searching.{deleted, is_named, is_queued, is_short_of, passes, queue_of, raised, rising, searched};
+ghost use Rattle.file_records.specs.Words.{AreDistinctWords, has_hash, new_words, words_of};
 
 /// What the words about look-ups mean, for all lists of files. The call does nothing.
 pub fn laws()
@@ -24,6 +25,12 @@ pub fn hash_laws()
         → words_of (files ++ file ∷ []) ≡ words_of files ++ new_words (words_of files) file.hashes }
     ensures distinct { (files : List Row) → AreDistinctWords (words_of files) }
     ensures symmetric { (xs ys : List Hash64) → least_distance xs ys ≡ least_distance ys xs }
+
+    // Each hash of a file has a number by which the file is found, and each number is that of some file.
+    ensures numbered { (files : List Row) (k : ℕ) (hash : Hash64) → Contains (hashes_at files k) hash
+        → (h : ℕ) × (slice_get (words_of files) h ≡ Some hash) × (has_hash h files k ≡ true) }
+    ensures held { (files : List Row) (h : ℕ) → h < length (words_of files)
+        → (k : ℕ) × (k < length files) × (has_hash h files k ≡ true) }
 {}
 
 /// What searches do to all lists of files. The call does nothing.
@@ -45,6 +52,12 @@ pub fn search_laws()
         → (rising d named files ≡ []) ↔ (searched d named files ≡ files) }
     ensures known { (d : ℕ) (named : List FileNo) (files : List Row)
         → All (λ f. f.0 < length files) (rising d named files) }
+
+    // Those whose distance rises ascend, and are the named ones that weren't searched so far.
+    ensures rising_ascends { (d : ℕ) (named : List FileNo) (files : List Row)
+        → AllPairs (λ a b. a.0 < b.0) (rising d named files) }
+    ensures rises { (d : ℕ) (named : List FileNo) (files : List Row) (k : ℕ)
+        → is_named (rising d named files) k ≡ (is_named named k && passes (is_short_of d) files k) }
 
     // All but the searched distances stays.
     ensures same_length { (d : ℕ) (named : List FileNo) (files : List Row)
@@ -75,3 +88,25 @@ pub fn search_laws()
         + length (filter (λ f. passes (is_queued d) files f.0) (rising w named files))
         ≡ length (queue_of d files) }
 {}
+
+/// What holds of the near pairs and of the deleted files of all lists of files. The call does nothing.
+pub fn near_laws()
+    // Each near pair is of two files that are there, the lower first.
+    ensures below { (files : List Row)
+        → All (λ row. (row.0.0 < row.0.1) × (row.0.1 < length files)) (near_pairs files) }
+
+    // The order of two files doesn't matter.
+    ensures symmetric { (files : List Row) (f g : ℕ) → near_at files f g ≡ near_at files g f }
+
+    // A file that was never searched is near to none.
+    ensures one_more { (file : Row) (files : List Row)
+        → file.searched ≡ None → near_pairs (files ++ file ∷ []) ≡ near_pairs files }
+
+    // Neither a live file nor a search brings a deleted file.
+    ensures live_more { (file : Row) (files : List Row)
+        → file.live ≡ true → deleted (files ++ file ∷ []) ≡ deleted files }
+    ensures still_deleted { (d : ℕ) (named : List FileNo) (files : List Row)
+        → deleted (searched d named files) ≡ deleted files }
+{
+    spare_tables::row_laws();
+}

@@ -43,7 +43,7 @@ module _ {K V : Type 0} (R : K → K → Ordering) where
       (λ less. rw less (ap (λ later. row.0 ∷ later) (keys_of-remove_entry rows key))) (λ equal. rw equal) (λ greater. rw greater (ap (λ later. row.0 ∷ later) (keys_of-remove_entry rows key)))
 
 module _ {K : Type 0} {R : K → K → Ordering} (order : IsTotalOrder R) (exact : (x y : K) → R x y ≡ Equal → x ≡ y) where
-  apart : (x y : K) → x ≢ y → is_eq (R x y) ≡ false
+  pub apart : (x y : K) → x ≢ y → is_eq (R x y) ≡ false
   apart x y differ = by_ordering (R x y) (λ less. ap is_eq less) (λ equal. absurd (differ (exact x y equal))) (λ greater. ap is_eq greater)
 
   same_or_not : (x y : K) → (x ≡ y) ⊎ (x ≢ y)
@@ -59,7 +59,7 @@ module _ {K V : Type 0} {R : K → K → Ordering} (order : IsTotalOrder R) wher
   sorted-without_row rows key sorted = rw (keys_of-remove_entry R rows key) (sorted-remove_key order (keys_of rows) key sorted)
 
   -- ---- where the key isn't there
-  below_all : (key k : K) (rows : List (K × V)) → R key k ≡ Less → AllByRecursion (λ y. R k y ≡ Less) (keys_of rows) → NonePasses (is_at (R key)) rows
+  pub below_all : (key k : K) (rows : List (K × V)) → R key k ≡ Less → AllByRecursion (λ y. R k y ≡ Less) (keys_of rows) → NonePasses (is_at (R key)) rows
   below_all key k [] less later = tt
   below_all key k (row ∷ rows) less later = (ap is_eq (order.trans key k row.0 less later.0), below_all key k rows less later.1)
 

@@ -1,19 +1,23 @@
 -- What the order of pairs means, and which second numbers a first one has among the pairs.
 use Rattle.std.proofs.Common.{◌≡◌, ◌≢◌, ◌⊎◌, ◌↔◌, ℕ, ◌<◌, eqb, List, Option, Some, None, sym, ap, subst, ◌∙◌, inl, inr, arith}
 use mathlib.Core.Bool.{false≢true}
-use Rattle.std.specs.Cmp.{ranks, nat_cmp_is}
+use Rattle.std.specs.Cmp.{IsTotalOrder, nat_cmp_total, ranks, nat_cmp_is}
 use Rattle.std.specs.List.{All, AllPairs, Contains}
 use Rattle.std.specs.List.Sorted.{IsStrictlySortedBy}
 use Rattle.std.specs.Ordering.{MatchOrdering, nat_cmp, ordering_then, is_lt, is_gt}
 use Rattle.std.specs.declared.cmp.Ordering.{Ordering}
 use Rattle.std.specs.declared.cmp.Ordering.TheVariants.{Less, Equal, Greater}
 use Rattle.std.proofs.lemmas.Bool.{cases_lt, cases_Bool, eqb-true, eqb-false}
+use Rattle.std.proofs.lemmas.Cmp.{on_total, then_total}
 use Rattle.std.proofs.lemmas.List.Elements.{All-contains}
 use Rattle.std.proofs.lemmas.Map.Keys.{Less-from_sorted}
 use Rattle.spare_tables.specs.Keys.{IsLeastFrom}
 use Rattle.spare_tables.specs.Order.{pair_cmp, pair_exact}
 use Rattle.spare_tables.specs.Pairs.{IsBefore, IsLeastSecondFrom, second_of}
 use Rattle.spare_tables.proofs.SortedKeys.{by_ordering}
+
+pub pair_order : IsTotalOrder pair_cmp
+pair_order = then_total (on_total (λ (p : ℕ × ℕ). p.0) nat_cmp_total) (on_total (λ (p : ℕ × ℕ). p.1) nat_cmp_total)
 
 -- what an answer of a comparison of numbers says
 number_says : (m n : ℕ) (answer : Ordering) → nat_cmp m n ≡ answer → MatchOrdering answer (m < n) (m ≡ n) (n < m)

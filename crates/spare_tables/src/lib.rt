@@ -12,7 +12,7 @@ pub use key::Key;
 pub use map::KeyMap;
 pub use rows::Rows;
 pub use set::KeySet;
-pub use theorems::pair_laws;
+pub use theorems::{edit_laws, pair_laws, row_laws};
 
 /// Sorted pairs.
 pub type PairSet = KeySet<(u32, u32)>;

@@ -1,6 +1,6 @@
 use Rattle.std.proofs.Common.{◌≡◌, map, take}
 use Rattle.media_types.specs.Distance.{distance_of}
-use Rattle.file_records.specs.Distances.{least}
+use Rattle.media_types.specs.Least.{least}
 use Rattle.file_records.proofs.hashes.distance_to.Given as goal
 
 abbrev pub invariant-loop-other : goal.invariant-loop-other

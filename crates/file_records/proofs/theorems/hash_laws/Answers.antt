@@ -1,4 +1,5 @@
 use Rattle.file_records.proofs.Distances.{symmetric}
+use Rattle.file_records.proofs.Held.{held, numbered}
 use Rattle.file_records.proofs.Words.{words_of_more, words_are_distinct}
 use Rattle.file_records.proofs.theorems.hash_laws.Goals as goal
 
@@ -10,3 +11,9 @@ returns-clause-distinct c = words_are_distinct
 
 pub returns-clause-symmetric : goal.returns-clause-symmetric
 returns-clause-symmetric c = symmetric
+
+pub returns-clause-numbered : goal.returns-clause-numbered
+returns-clause-numbered c = numbered
+
+pub returns-clause-held : goal.returns-clause-held
+returns-clause-held c = held

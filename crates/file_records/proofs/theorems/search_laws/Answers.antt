@@ -1,5 +1,5 @@
 use Rattle.file_records.proofs.Queues.{queue_ascends, queue_known, queue_leaves, queue_left, queue_one_more, queue_stays}
-use Rattle.file_records.proofs.Searches.{changes, distinct, each, enough, known, none, one_more, others, same_length, words}
+use Rattle.file_records.proofs.Searches.{changes, distinct, each, enough, known, named_in_rising, none, one_more, others, rising_ascends, same_length, words}
 use Rattle.file_records.proofs.theorems.search_laws.Goals as goal
 
 pub returns-clause-each : goal.returns-clause-each
@@ -49,3 +49,9 @@ returns-clause-queue_leaves c = queue_leaves
 
 pub returns-clause-queue_left : goal.returns-clause-queue_left
 returns-clause-queue_left c = queue_left
+
+pub returns-clause-rising_ascends : goal.returns-clause-rising_ascends
+returns-clause-rising_ascends c = rising_ascends
+
+pub returns-clause-rises : goal.returns-clause-rises
+returns-clause-rises c = named_in_rising

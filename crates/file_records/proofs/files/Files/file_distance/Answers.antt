@@ -4,7 +4,8 @@ use Rattle.media_types.specs.Distance.{distance_of}
 use Rattle.media_types.specs.declared.hash.Hash64.{Hash64}
 use Rattle.spare_tables.specs.Table.{Table}
 use Rattle.file_records.specs.declared.file_row.FileRow.{FileRow}
-use Rattle.file_records.specs.Distances.{least, least_distance, nearer}
+use Rattle.media_types.specs.Least.{least}
+use Rattle.file_records.specs.Distances.{least_distance, nearer}
 use Rattle.file_records.proofs.Distances.{distance_more}
 use Rattle.file_records.proofs.Listed.{row_read}
 use Rattle.file_records.proofs.files.Files.file_distance.Goals as goal

@@ -1,4 +1,4 @@
-use Rattle.std.proofs.Common.{◌≡◌, ◌<◌, true, false, length, get_or, slice_get, ◌-◌, All, ap, sym, ◌∙◌, arith}
+use Rattle.std.proofs.Common.{◌≡◌, ◌<◌, true, false, length, get_or, slice_get, ◌-◌, All, length-append, ap, sym, ◌∙◌, arith}
 use Rattle.std.specs.List.Sorted.{IsNonDecreasingBy}
 use Rattle.std.proofs.lemmas.List.{get_or_default}
 use Rattle.std.proofs.lemmas.List.Sorted.{All-permutation, IsNonDecreasingBy-from_sort}
@@ -12,6 +12,7 @@ use Rattle.file_records.proofs.files.Files.rising.Goals.{then-ne+then-is_short_o
 pub loop-file-init : goal.loop-file-init
 loop-file-init g c = record {
   found = c.new-found.ensures ∙ sym (none_named c.args.within c.args.self.now.rows);
+  few = omega (arith, ap length c.new-found.ensures);
   reads = omega arith;
 }
 
@@ -59,6 +60,11 @@ loop-file-preserved g c =
           | else-ne-via-else-ne w' ↦ rw w.found-is
               (again_is_not_found d sorted i file rows found c.copied-last.result inside at so_far ended (is_last c.copied-last.result file c.ne.result c.ne.ensures w'.if-ne.false))
         ]
+      ];
+      few = elim c.if-ne.branch [
+        | then-ne+then-is_short_of+in_ok-push w ↦
+            rw w.found-is (omega (arith, ap length w.in_ok-push.ensures.ok, length-append found, c.loop-file.invariant.few))
+        | else-ne w ↦ rw w.found-is (omega (arith, c.loop-file.invariant.few))
       ];
       reads = omega (arith, c.loop-file.invariant.reads, c.tick.ensures);
     }
