@@ -14,11 +14,11 @@ use Rattle.media_types.specs.declared.numbers.FileNo.{FileNo}
 use Rattle.tree_upkeep.specs.Queue.{Ascend, below, above, noted}
 
 -- ---- the place
-tail : (x : FileNo) (xs : List FileNo) → Ascend (x ∷ xs) → Ascend xs
+pub tail : (x : FileNo) (xs : List FileNo) → Ascend (x ∷ xs) → Ascend xs
 tail x xs ascend = λ i j d before within. ascend (suc i) (suc j) d (omega arith) (omega arith)
 
 -- where each file is greater, none is below
-all_above : (file : FileNo) (xs : List FileNo) → ((j : ℕ) (d : FileNo) → j < length xs → file.0 < (get_or xs j d).0) → (below file xs ≡ []) × (above file xs ≡ xs)
+pub all_above : (file : FileNo) (xs : List FileNo) → ((j : ℕ) (d : FileNo) → j < length xs → file.0 < (get_or xs j d).0) → (below file xs ≡ []) × (above file xs ≡ xs)
 all_above file [] greater = (refl, refl)
 all_above file (x ∷ xs) greater =
     let first = greater 0 x (omega arith) in
