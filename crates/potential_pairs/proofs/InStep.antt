@@ -13,10 +13,11 @@ use Rattle.media_types.specs.declared.limits.TheConstants.{MAX_DISTANCE}
 use Rattle.spare_tables.specs.Keys.{value_of}
 use Rattle.spare_tables.specs.Order.{pair_cmp}
 use Rattle.potential_pairs.specs.Levels.{AreInStep, Ascend, IsDistance, IsLevelOf, IsName, one_at}
-use Rattle.potential_pairs.specs.Planning.{with_distance}
+use Rattle.potential_pairs.specs.Planning.{with_value}
 use Rattle.potential_pairs.specs.Potential.{Row}
 use Rattle.potential_pairs.proofs.Counting.{one_at-option}
-use Rattle.potential_pairs.proofs.Rows.{pair_order, same_name, set_here, set_other, sorted-with_distance}
+use Rattle.potential_pairs.proofs.Rows.{same_name, set_here, set_other, sorted-with_value}
+use Rattle.potential_pairs.proofs.SortedRows.{pair_order}
 
 -- ---- the old distance of a name
 value-shallow : (rows : List Row) (name : ℕ × ℕ) → All IsDistance (values_of rows) → IfSome (value_of pair_cmp rows name) IsDistance
@@ -34,7 +35,7 @@ old-shallow rows levels counts name old step is = rw is (value-shallow rows name
 abbrev count_at : ℕ → List Row → ℕ
 count_at e rows = count_by (λ v. v == e) (values_of rows)
 
-count-set : (rows : List Row) (name : ℕ × ℕ) (d : Option ℕ) (e : ℕ) → Ascend rows → count_at e (with_distance rows name d) + one_at e (value_of pair_cmp rows name) ≡ count_at e rows + one_at e d
+count-set : (rows : List Row) (name : ℕ × ℕ) (d : Option ℕ) (e : ℕ) → Ascend rows → count_at e (with_value rows name d) + one_at e (value_of pair_cmp rows name) ≡ count_at e rows + one_at e d
 count-set rows name None e sorted =
     let sums = sum_by-remove_entry (λ v. cond (v == e) 1 0) (is_at (pair_cmp name)) rows in
     omega (arith, sums, one_at-option e (value_of pair_cmp rows name))
@@ -57,11 +58,11 @@ old-counted rows levels counts name (Some d) step is =
 
 -- there is room for one more in the count of the new distance
 pub new-counted : (rows : List Row) (levels : List (ℕ × ℕ × ℕ)) (counts left : List ℕ) (name : ℕ × ℕ) (d : Option ℕ) → AreInStep rows levels counts
-    → IfSome d IsDistance → length (with_distance rows name d) < 2 ^ 64 → ((e : ℕ) → get_or left e 0 + one_at e (value_of pair_cmp rows name) ≡ get_or counts e 0)
+    → IfSome d IsDistance → length (with_value rows name d) < 2 ^ 64 → ((e : ℕ) → get_or left e 0 + one_at e (value_of pair_cmp rows name) ≡ get_or counts e 0)
     → IfSome d (λ e. get_or left e 0 + 1 < 2 ^ 64)
 new-counted rows levels counts left name None step shallow fits took = tt
 new-counted rows levels counts left name (Some d) step shallow fits took =
-    let now = with_distance rows name (Some d) in
+    let now = with_value rows name (Some d) in
     let one : one_at d (Some d) ≡ 1 = rw (eq-eqb d d refl) refl in
     omega (arith, took d, step.count d shallow, count-set rows name (Some d) d step.sorted, one, count_by-le-length (λ v. v == d) (values_of now), length-values_of now, fits)
 
@@ -77,20 +78,20 @@ level-at name (Some d) e j k same is =
     let here : e ≡ d = cc in
     λ i. (here i, (same i).0, (same i).1)
 
-named-set : (rows : List Row) (name : ℕ × ℕ) (d : Option ℕ) → All IsName (keys_of rows) → IsName name → All IsName (keys_of (with_distance rows name d))
+named-set : (rows : List Row) (name : ℕ × ℕ) (d : Option ℕ) → All IsName (keys_of rows) → IsName name → All IsName (keys_of (with_value rows name d))
 named-set rows name None all this = All-map-remove_entry (is_at (pair_cmp name)) (λ (row : Row). row.0) IsName rows all
 named-set rows name (Some d) all this = All-keys-insert_entry pair_cmp name d IsName rows all this
 
-shallow-set : (rows : List Row) (name : ℕ × ℕ) (d : Option ℕ) → All IsDistance (values_of rows) → IfSome d IsDistance → All IsDistance (values_of (with_distance rows name d))
+shallow-set : (rows : List Row) (name : ℕ × ℕ) (d : Option ℕ) → All IsDistance (values_of rows) → IfSome d IsDistance → All IsDistance (values_of (with_value rows name d))
 shallow-set rows name None all this = All-map-remove_entry (is_at (pair_cmp name)) (λ (row : Row). row.1) IsDistance rows all
 shallow-set rows name (Some d) all this = All-values-insert_entry pair_cmp name d IsDistance rows all this
 
 module _ (rows : List Row) (levels left entered : List (ℕ × ℕ × ℕ)) (counts less more : List ℕ) (name : ℕ × ℕ) (d : Option ℕ) (step : AreInStep rows levels counts)
     (leaves : (t : ℕ × ℕ × ℕ) → Contains left t ↔ (Contains levels t × ¬ (IsLevelOf name (value_of pair_cmp rows name) t)))
     (enters : (t : ℕ × ℕ × ℕ) → Contains entered t ↔ (Contains left t ⊎ IsLevelOf name d t)) where
-  level-here : (e j k : ℕ) → (j, k) ≡ name → Contains entered (e, j, k) ↔ (value_of pair_cmp (with_distance rows name d) (j, k) ≡ Some e)
+  level-here : (e j k : ℕ) → (j, k) ≡ name → Contains entered (e, j, k) ↔ (value_of pair_cmp (with_value rows name d) (j, k) ≡ Some e)
   level-here e j k same =
-      let here : value_of pair_cmp (with_distance rows name d) (j, k) ≡ d = ap (value_of pair_cmp (with_distance rows name d)) same ∙ set_here rows name d step.sorted in (
+      let here : value_of pair_cmp (with_value rows name d) (j, k) ≡ d = ap (value_of pair_cmp (with_value rows name d)) same ∙ set_here rows name d step.sorted in (
         λ there. here ∙ elim ((enters (e, j, k)).0 there) [
           | inr new ↦ (level-name name d e j k new).1
           | inl stayed ↦
@@ -101,9 +102,9 @@ module _ (rows : List Row) (levels left entered : List (ℕ × ℕ × ℕ)) (cou
         λ has. (enters (e, j, k)).1 (inr (level-at name d e j k same (sym here ∙ has))),
       )
 
-  level-other : (e j k : ℕ) → (j, k) ≢ name → Contains entered (e, j, k) ↔ (value_of pair_cmp (with_distance rows name d) (j, k) ≡ Some e)
+  level-other : (e j k : ℕ) → (j, k) ≢ name → Contains entered (e, j, k) ↔ (value_of pair_cmp (with_value rows name d) (j, k) ≡ Some e)
   level-other e j k other =
-      let there : value_of pair_cmp (with_distance rows name d) (j, k) ≡ value_of pair_cmp rows (j, k) = set_other rows name d (j, k) step.sorted other in (
+      let there : value_of pair_cmp (with_value rows name d) (j, k) ≡ value_of pair_cmp rows (j, k) = set_other rows name d (j, k) step.sorted other in (
         λ level. there ∙ elim ((enters (e, j, k)).0 level) [
           | inr new ↦ absurd (other (level-name name d e j k new).0)
           | inl stayed ↦ (step.level e j k).0 ((leaves (e, j, k)).0 stayed).0
@@ -112,9 +113,9 @@ module _ (rows : List Row) (levels left entered : List (ℕ × ℕ × ℕ)) (cou
       )
 
   pub in_step-set : IsName name → IfSome d IsDistance → ((e : ℕ) → get_or less e 0 + one_at e (value_of pair_cmp rows name) ≡ get_or counts e 0)
-      → ((e : ℕ) → get_or more e 0 ≡ get_or less e 0 + one_at e d) → AreInStep (with_distance rows name d) entered more
+      → ((e : ℕ) → get_or more e 0 ≡ get_or less e 0 + one_at e d) → AreInStep (with_value rows name d) entered more
   in_step-set this shallow took put = record {
-    sorted = sorted-with_distance rows name d step.sorted;
+    sorted = sorted-with_value rows name d step.sorted;
     named = named-set rows name d step.named this;
     shallow = shallow-set rows name d step.shallow shallow;
     level = λ e j k. elim (same_name (j, k) name) [ inl same ↦ level-here e j k same | inr other ↦ level-other e j k other ];

@@ -19,12 +19,11 @@ use Rattle.media_types.specs.declared.numbers.FileNo.{FileNo}
 use Rattle.spare_tables.specs.Keys.{value_of}
 use Rattle.spare_tables.specs.Order.{pair_cmp, pair_exact}
 use Rattle.spare_tables.specs.Pairs.{IsBefore}
-use Rattle.spare_tables.proofs.PairOrder.{pair_greater, pair_less}
-use Rattle.spare_tables.proofs.SortedKeys.{by_ordering}
 use Rattle.potential_pairs.specs.Levels.{AreHeads, Ascend, IsFirstBehind, IsHead, IsLeastHead}
 use Rattle.potential_pairs.specs.Pages.{is_behind, within}
 use Rattle.potential_pairs.specs.Potential.{Row}
-use Rattle.potential_pairs.proofs.Rows.{none_below, none_later, pair_order}
+use Rattle.potential_pairs.proofs.Rows.{none_below, none_later}
+use Rattle.potential_pairs.proofs.SortedRows.{by_ordering, pair_greater, pair_less, pair_order}
 
 -- the rows within a distance that come after a place
 abbrev pub behind : Option (FileNo × FileNo) → ℕ → List Row → List Row
@@ -86,7 +85,7 @@ behind-cons place m row rows = by (nat_le row.1 m) (is_behind place row.0) refl 
 later_value : (row : Row) (rows : List Row) (q : ℕ × ℕ) (e : ℕ) → Ascend (row ∷ rows) → value_of pair_cmp rows q ≡ Some e → value_of pair_cmp (row ∷ rows) q ≡ Some e
 later_value row rows q e sorted has = by_ordering (pair_cmp q row.0)
     (λ less. rw less has)
-    (λ equal. let none = none_later q row rows sorted equal in cc)
+    (λ equal. let none = none_later row rows sorted in let moved = ap (value_of pair_cmp rows) (pair_exact q row.0 equal) in cc)
     (λ greater. rw greater has)
 
 first_value : (row : Row) (rows : List Row) → value_of pair_cmp (row ∷ rows) row.0 ≡ Some row.1

@@ -1,42 +1,73 @@
--- What a plan leads to once it has one more near pair.
-use Rattle.std.proofs.Common.{◌≡◌, ◌≢◌, ◌⊎◌, ◌∙◌, ◌≤◌, ◌<◌, ◌&&◌, ◌==◌, ℕ, Bool, true, false, cond, not, Decides, List, [], ◌∷◌, ◌++◌, Option, Some, None, length, take, get_or, refl, sym, ap, subst, inl, inr, arith}
+-- What a plan leads to.
+use Rattle.std.proofs.Common.{◌≡◌, ◌≢◌, ◌⊎◌, ◌∙◌, ◌<◌, ◌+◌, ◌-◌, ◌==◌, ℕ, Bool, true, false, not, Decides, List, [], Option, Some, None, length, take, get_or, refl, sym, ap, subst, inl, inr, arith}
 use Rattle.std.specs.BTreeMap.{insert_entry}
 use Rattle.std.specs.List.{Contains, list_any}
+use Rattle.std.specs.Option.{is_some}
+use Rattle.std.specs.List.Sorted.{IsStrictlySortedBy}
 use Rattle.std.proofs.lemmas.Bool.Decides.{Decides-by_or, Decides-eqb, same_from_decides}
 use Rattle.std.proofs.lemmas.List.{get_or-take, get_or_default, length-take, take_all}
 use Rattle.std.proofs.lemmas.List.Elements.{Decides-contains}
+use Rattle.media_types.specs.declared.numbers.FileNo.{FileNo}
 use Rattle.spare_tables.specs.Keys.{value_of}
 use Rattle.spare_tables.specs.Order.{pair_cmp}
 use Rattle.relation_groups.specs.Relations.{Relations}
-use Rattle.potential_pairs.specs.Levels.{Ascend}
-use Rattle.potential_pairs.specs.Naming.{name_of}
-use Rattle.potential_pairs.specs.Planning.{AreFound, Found, IsFound, PlanView, after, with_changes, with_found}
-use Rattle.potential_pairs.specs.Potential.{AreOf, PairsView, Row, is_live, may_pair, potential_at}
-use Rattle.potential_pairs.proofs.Between.{of-known, of-lower, of-quiet}
-use Rattle.potential_pairs.proofs.Rows.{name_in, put-same, sorted-with_found, stays_near, was_found, with_found_push}
-
--- ---- near pairs
--- a pair that is near already changes nothing
-pub near-known : (plan : PlanView) (rows : PairsView) (name : ℕ × ℕ) (d v : ℕ) → Ascend rows.near → value_of pair_cmp rows.near name ≡ Some v
-    → ((e : ℕ) → value_of pair_cmp (after plan rows).near name ≡ Some e → e ≡ d) → (after plan rows).near ≡ insert_entry pair_cmp (after plan rows).near name d
-unfolding after
-near-known plan rows name d v sorted has same =
-    let still = stays_near plan.near rows.near name v has in
-    let is : still.0 ≡ d = same still.0 still.1 in
-    sym (put-same (with_found plan.near rows.near) name d (sorted-with_found plan.near rows.near sorted) (still.1 ∙ ap Some is))
-
-pub near-added : (old new : PlanView) (rows : PairsView) (found : Found) → new.near ≡ old.near ++ found ∷ [] → (after new rows).near ≡ insert_entry pair_cmp (after old rows).near (name_in found) found.2
-unfolding after
-near-added old new rows found more = ap (λ list. with_found list rows.near) more ∙ with_found_push old.near found rows.near
-
-pub after-gone : (plan : PlanView) (rows : PairsView) → (after plan rows).gone ≡ rows.gone
-unfolding after
-after-gone plan rows = refl
+use Rattle.potential_pairs.specs.Keeping.{AreTallyRows}
+use Rattle.potential_pairs.specs.Levels.{Ascend, one_at}
+use Rattle.potential_pairs.specs.Naming.{AreCounted, count_named, live_name, weight}
+use Rattle.potential_pairs.specs.Planning.{AreFound, Found, IsFound, PlanView, after, planned_count, with_changes, with_found, with_live}
+use Rattle.potential_pairs.specs.Potential.{AreOf, PairsView, Row, is_live}
+use Rattle.potential_pairs.specs.Tallies.{TallyRow, count_at, if_any}
+use Rattle.potential_pairs.specs.declared.tally.Tally.{Tally}
+use Rattle.potential_pairs.proofs.Between.{counted-of, of-counted}
+use Rattle.potential_pairs.proofs.Counts.{count-put, weight-other, weight-same}
+use Rattle.potential_pairs.proofs.Least.{count-if_any}
+use Rattle.potential_pairs.proofs.TallyRows.{with-tallies}
+use Rattle.potential_pairs.proofs.Rows.{apart-from_ascend, changed, length-put_new, name_in, put-same, same_name, same_rows, sorted-with_changes, value-with_changes, was_found}
+use Rattle.potential_pairs.proofs.SortedRows.{sorted-put, value_put, value_put_other}
 
 -- an empty plan leads nowhere
-pub after-nothing : (plan : PlanView) (rows : PairsView) → plan.near ≡ [] → plan.changes ≡ [] → after plan rows ≡ rows
+pub after-nothing : (plan : PlanView) (rows : PairsView) → plan.near ≡ [] → plan.tallies ≡ [] → plan.live ≡ None → after plan rows ≡ rows
 unfolding after
-after-nothing plan rows near changes = λ i. record { near = with_found (near i) rows.near; gone = rows.gone; pairs = with_changes (changes i) rows.pairs }
+after-nothing plan rows near tallies live =
+    ap (λ (p : PlanView). after p rows) (λ i. record { near = near i; tallies = tallies i; live = live i })
+
+pub after-live : (plan : PlanView) (rows : PairsView) (live : Option (FileNo × Bool)) → plan.live ≡ live → (after plan rows).gone ≡ with_live live rows.gone
+unfolding after
+after-live plan rows live same = ap (λ l. with_live l rows.gone) same
+
+pub after-near : (plan : PlanView) (rows : PairsView) → plan.near ≡ [] → (after plan rows).near ≡ rows.near
+unfolding after
+after-near plan rows none = ap (λ (list : List Row). with_changes Some list rows.near) none
+
+-- ---- near pairs
+module _ (rows : PairsView) (sorted : Ascend rows.near) where
+  pub after-near_sorted : (plan : PlanView) → Ascend (after plan rows).near
+  unfolding after
+  after-near_sorted plan = sorted-with_changes Some plan.near rows.near sorted
+
+  -- one more near pair
+  pub near-added : (old new : PlanView) (files : ℕ × ℕ) (e : ℕ) → Ascend old.near → new.near ≡ insert_entry pair_cmp old.near files e
+      → (after new rows).near ≡ insert_entry pair_cmp (after old rows).near files e
+  unfolding after
+  near-added old new files e planned more =
+      let more_sorted : Ascend (insert_entry pair_cmp old.near files e) = sorted-put old.near files e planned in
+      ap (λ (list : List Row). with_changes Some list rows.near) more
+      ∙ same_rows (with_changes Some (insert_entry pair_cmp old.near files e) rows.near) (insert_entry pair_cmp (with_changes Some old.near rows.near) files e)
+      (sorted-with_changes Some (insert_entry pair_cmp old.near files e) rows.near sorted)
+      (sorted-put (with_changes Some old.near rows.near) files e (sorted-with_changes Some old.near rows.near sorted))
+      (λ q. value-with_changes Some (insert_entry pair_cmp old.near files e) rows.near q (apart-from_ascend (insert_entry pair_cmp old.near files e) more_sorted) sorted ∙ elim (same_name q files) [
+        | inl same ↦
+            ap (λ found. changed Some found (value_of pair_cmp rows.near q)) (ap (value_of pair_cmp (insert_entry pair_cmp old.near files e)) same ∙ value_put files e old.near)
+            ∙ sym (ap (value_of pair_cmp (insert_entry pair_cmp (with_changes Some old.near rows.near) files e)) same ∙ value_put files e (with_changes Some old.near rows.near))
+        | inr other ↦
+            ap (λ found. changed Some found (value_of pair_cmp rows.near q)) (value_put_other q files e old.near other)
+            ∙ sym (value_put_other q files e (with_changes Some old.near rows.near) other ∙ value-with_changes Some old.near rows.near q (apart-from_ascend old.near planned) sorted)
+      ])
+
+  -- which pairs are near after it
+  pub near-value : (plan : PlanView) (q : ℕ × ℕ) → Ascend plan.near → value_of pair_cmp (after plan rows).near q ≡ changed Some (value_of pair_cmp plan.near q) (value_of pair_cmp rows.near q)
+  unfolding after
+  near-value plan q planned = value-with_changes Some plan.near rows.near q (apart-from_ascend plan.near planned) sorted
 
 -- a found pair that is near once some are noted has the distance that was found
 pub found-same : (n : ℕ) (near : List Row) (found : List Found) (m i : ℕ) (this : Found) → AreFound n near found → i < length found → this ≡ get_or found i this
@@ -77,40 +108,134 @@ found-again n near found are = record {
   alike = are.alike;
 }
 
--- ---- potential pairs
--- what is said of the parts is said of the pairs that a plan leads to
-module _ (R : Relations) (old new : PlanView) (rows : PairsView) (found : Found) (more : new.near ≡ old.near ++ found ∷ [])
-    (same : (e : ℕ) → value_of pair_cmp (after old rows).near (name_in found) ≡ Some e → e ≡ found.2) (of : AreOf R (after old rows)) where
-  with-near : (pairs : List Row) → with_changes new.changes rows.pairs ≡ pairs
-      → AreOf R (record { near = insert_entry pair_cmp (after old rows).near (name_in found) found.2; gone = rows.gone; pairs = pairs }) → AreOf R (after new rows)
-  unfolding after
-  with-near pairs is made =
-      let near : insert_entry pair_cmp (with_found old.near rows.near) (name_in found) found.2 ≡ with_found new.near rows.near = sym (near-added old new rows found more) in
-      let there : AreOf R (record { near = with_found new.near rows.near; gone = rows.gone; pairs = pairs }) =
-      subst (λ (list : List Row). AreOf R (record { near = list; gone = rows.gone; pairs = pairs })) near made in
-      subst (λ (list : List Row). AreOf R (record { near = with_found new.near rows.near; gone = rows.gone; pairs = list })) (sym is) there
+-- ---- tallies
+-- the count of a new tally, or else the old count
+abbrev pub planned_by : Option Tally → ℕ → ℕ → ℕ
+planned_by None old d = old
+planned_by (Some tally) old d = get_or tally.counts d 0
 
-  pub added-quiet : new.changes ≡ old.changes → (is_live rows.gone found.0.0 && is_live rows.gone found.1.0 ≡ false) ⊎ (name_of R found.0.0 found.1.0 ≡ None) → AreOf R (after new rows)
-  unfolding after
-  added-quiet changes quiet =
-      with-near (with_changes old.changes rows.pairs) (ap (λ list. with_changes list rows.pairs) changes)
-      (of-quiet R rows.gone (with_found old.near rows.near) (with_changes old.changes rows.pairs) found.0.0 found.1.0 found.2 same of quiet)
+-- what the tally of a name counts after a plan
+pub planned_count-is : (plan : PlanView) (rows : PairsView) (name : ℕ × ℕ) (d : ℕ) → Ascend plan.tallies → Ascend rows.tallies
+    → planned_count plan rows name d ≡ planned_by (value_of pair_cmp plan.tallies name) (count_at (value_of pair_cmp rows.tallies name) d) d
+unfolding planned_count after
+planned_count-is plan rows name d planned sorted =
+    ap (λ found. count_at found d) (value-with_changes if_any plan.tallies rows.tallies name (apart-from_ascend plan.tallies planned) sorted)
+    ∙ by (value_of pair_cmp plan.tallies name) where
+      by : (new : Option Tally) → count_at (changed if_any new (value_of pair_cmp rows.tallies name)) d ≡ planned_by new (count_at (value_of pair_cmp rows.tallies name) d) d
+      by None = refl
+      by (Some tally) = count-if_any tally d
 
-  pub added-known : (name : ℕ × ℕ) (known : ℕ) → new.changes ≡ old.changes → is_live rows.gone found.0.0 ≡ true → is_live rows.gone found.1.0 ≡ true
-      → name_of R found.0.0 found.1.0 ≡ Some name → value_of pair_cmp (after old rows).pairs name ≡ Some known → known ≤ found.2 → AreOf R (after new rows)
-  unfolding after
-  added-known name known changes f_live g_live named has within =
-      with-near (with_changes old.changes rows.pairs) (ap (λ list. with_changes list rows.pairs) changes)
-      (of-known R rows.gone (with_found old.near rows.near) (with_changes old.changes rows.pairs) found.0.0 found.1.0 found.2 same of name known f_live g_live named has within)
+-- a tally that a plan sets counts for its name, and other names stay
+module _ (old new : PlanView) (rows : PairsView) (name : ℕ × ℕ) (tally : Tally) (planned : Ascend old.tallies) (sorted : Ascend rows.tallies)
+    (set : new.tallies ≡ insert_entry pair_cmp old.tallies name tally) where
+  new_sorted : Ascend new.tallies
+  new_sorted = subst (λ (list : List TallyRow). Ascend list) (sym set) (sorted-put old.tallies name tally planned)
 
-  pub added-lower : (name : ℕ × ℕ) → is_live rows.gone found.0.0 ≡ true → is_live rows.gone found.1.0 ≡ true → name_of R found.0.0 found.1.0 ≡ Some name
-      → ((known : ℕ) → value_of pair_cmp (after old rows).pairs name ≡ Some known → found.2 < known)
-      → value_of pair_cmp (with_changes new.changes rows.pairs) name ≡ Some found.2
-      → ((q : ℕ × ℕ) → q ≢ name → value_of pair_cmp (with_changes new.changes rows.pairs) q ≡ value_of pair_cmp (with_changes old.changes rows.pairs) q) → AreOf R (after new rows)
-  unfolding after
-  added-lower name f_live g_live named greater here others =
-      with-near (with_changes new.changes rows.pairs) refl
-      (of-lower R rows.gone (with_found old.near rows.near) (with_changes old.changes rows.pairs) found.0.0 found.1.0 found.2 same of name (with_changes new.changes rows.pairs) f_live g_live named greater here others)
+  pub planned_count-here : (q : ℕ × ℕ) (d : ℕ) → q ≡ name → planned_count new rows q d ≡ get_or tally.counts d 0
+  planned_count-here q d same =
+      let found : value_of pair_cmp new.tallies q ≡ Some tally = (λ i. value_of pair_cmp (set i) (same i)) ∙ value_put name tally old.tallies in
+      planned_count-is new rows q d new_sorted sorted ∙ ap (λ t. planned_by t (count_at (value_of pair_cmp rows.tallies q) d) d) found
+
+  pub planned_count-there : (q : ℕ × ℕ) (d : ℕ) → q ≢ name → planned_count new rows q d ≡ planned_count old rows q d
+  planned_count-there q d other =
+      let found : value_of pair_cmp new.tallies q ≡ value_of pair_cmp old.tallies q = ap (λ list. value_of pair_cmp list q) set ∙ value_put_other q name tally old.tallies other in
+      planned_count-is new rows q d new_sorted sorted ∙ ap (λ t. planned_by t (count_at (value_of pair_cmp rows.tallies q) d) d) found ∙ sym (planned_count-is old rows q d planned sorted)
+
+  -- one near pair more, or one less, makes the pair of the name
+  pub planned_count-more : (e : ℕ) → ((d : ℕ) → get_or tally.counts d 0 ≡ planned_count old rows name d + one_at d (Some e))
+      → (q : ℕ × ℕ) (d : ℕ) → planned_count new rows q d ≡ planned_count old rows q d + weight (Some name) e q d
+  planned_count-more e counts q d = elim (same_name q name) [
+    | inl same ↦
+        let was : planned_count old rows q d ≡ planned_count old rows name d = ap (λ (n : ℕ × ℕ). planned_count old rows n d) same in
+        omega (arith, planned_count-here q d same, counts d, was, weight-same name q e d same)
+    | inr other ↦ omega (arith, planned_count-there q d other, weight-other name q e d other)
+  ]
+
+  pub planned_count-less : (e : ℕ) → ((d : ℕ) → get_or tally.counts d 0 ≡ planned_count old rows name d - one_at d (Some e))
+      → (q : ℕ × ℕ) (d : ℕ) → planned_count new rows q d ≡ planned_count old rows q d - weight (Some name) e q d
+  planned_count-less e counts q d = elim (same_name q name) [
+    | inl same ↦
+        let was : planned_count old rows q d ≡ planned_count old rows name d = ap (λ (n : ℕ × ℕ). planned_count old rows n d) same in
+        omega (arith, planned_count-here q d same, counts d, was, weight-same name q e d same)
+    | inr other ↦ omega (arith, planned_count-there q d other, weight-other name q e d other)
+  ]
+
+pub planned_count-kept : (old new : PlanView) (rows : PairsView) → new.tallies ≡ old.tallies → (q : ℕ × ℕ) (d : ℕ) → planned_count new rows q d ≡ planned_count old rows q d
+unfolding planned_count after
+planned_count-kept old new rows same q d = ap (λ list. count_at (value_of pair_cmp (with_changes if_any list rows.tallies) q) d) same
+
+-- the tallies count the near pairs after a plan exactly where their counts are theirs
+pub counted-after : (naming : ℕ × ℕ → Option (ℕ × ℕ)) (plan : PlanView) (rows : PairsView) → ((name : ℕ × ℕ) (d : ℕ) → planned_count plan rows name d ≡ count_named naming (after plan rows).near name d) → AreCounted naming (after plan rows)
+unfolding AreCounted planned_count
+counted-after naming plan rows counts = counts
+
+pub counts-after : (naming : ℕ × ℕ → Option (ℕ × ℕ)) (plan : PlanView) (rows : PairsView) → AreCounted naming (after plan rows) → (name : ℕ × ℕ) (d : ℕ) → planned_count plan rows name d ≡ count_named naming (after plan rows).near name d
+unfolding AreCounted planned_count
+counts-after naming plan rows counted = counted
+
+-- a near pair that wasn't there makes the pair of its name
+pub counted-added : (naming : ℕ × ℕ → Option (ℕ × ℕ)) (rows : PairsView) (old new : PlanView) (files : ℕ × ℕ) (e : ℕ) → Ascend rows.near → Ascend old.near → new.near ≡ insert_entry pair_cmp old.near files e
+    → value_of pair_cmp (after old rows).near files ≡ None → ((q : ℕ × ℕ) (d : ℕ) → planned_count new rows q d ≡ planned_count old rows q d + weight (naming files) e q d)
+    → AreCounted naming (after old rows) → AreCounted naming (after new rows)
+counted-added naming rows old new files e sorted planned more none counts counted = counted-after naming new rows (λ q d.
+    let near = ap (λ list. count_named naming list q d) (near-added rows sorted old new files e planned more) in
+    omega (arith, counts q d, counts-after naming old rows counted q d, near, count-put q d naming (after old rows).near files e none))
+
+-- a pair that is near already changes nothing
+pub near-known : (rows : PairsView) (plan : PlanView) (files : ℕ × ℕ) (e : ℕ) → Ascend rows.near → Ascend plan.near
+    → (is_some (value_of pair_cmp rows.near files) ≡ true) ⊎ (is_some (value_of pair_cmp plan.near files) ≡ true)
+    → ((d : ℕ) → value_of pair_cmp (after plan rows).near files ≡ Some d → d ≡ e) → (after plan rows).near ≡ insert_entry pair_cmp (after plan rows).near files e
+near-known rows plan files e sorted planned known same =
+    let found = some_value (changed Some (value_of pair_cmp plan.near files) (value_of pair_cmp rows.near files)) (by (value_of pair_cmp plan.near files) (value_of pair_cmp rows.near files) known) in
+    let has = near-value rows sorted plan files planned ∙ found.1 in
+    sym (put-same (after plan rows).near files e (after-near_sorted rows sorted plan) (has ∙ ap Some (same found.0 has))) where
+      by : (new old : Option ℕ) → (is_some old ≡ true) ⊎ (is_some new ≡ true) → is_some (changed Some new old) ≡ true
+      by None old (inl has) = has
+      by None old (inr has) = cc
+      by (Some v) old has = refl
+
+      some_value : (found : Option ℕ) → is_some found ≡ true → (v : ℕ) × (found ≡ Some v)
+      some_value None is = cc
+      some_value (Some v) is = (v, refl)
+
+-- a pair that is in neither isn't near yet
+pub near-new : (rows : PairsView) (plan : PlanView) (files : ℕ × ℕ) → Ascend rows.near → Ascend plan.near
+    → is_some (value_of pair_cmp rows.near files) ≡ false → is_some (value_of pair_cmp plan.near files) ≡ false → value_of pair_cmp (after plan rows).near files ≡ None
+near-new rows plan files sorted planned old new = near-value rows sorted plan files planned ∙ by (value_of pair_cmp plan.near files) (value_of pair_cmp rows.near files) new old where
+  by : (added had : Option ℕ) → is_some added ≡ false → is_some had ≡ false → changed Some added had ≡ None
+  by None None unplanned never = refl
+  by None (Some v) unplanned never = cc
+  by (Some v) had unplanned never = cc
+
+is_none : {V : Type 0} (found : Option V) → is_some found ≡ false → found ≡ None
+is_none None none = refl
+is_none (Some v) none = cc
+
+pub length-near_added : (rows : PairsView) (old new : PlanView) (files : ℕ × ℕ) (e : ℕ) → Ascend rows.near → Ascend old.near → new.near ≡ insert_entry pair_cmp old.near files e
+    → is_some (value_of pair_cmp rows.near files) ≡ false → is_some (value_of pair_cmp old.near files) ≡ false
+    → length (after new rows).near + length old.near ≡ length (after old rows).near + length new.near
+length-near_added rows old new files e sorted planned more never unplanned =
+    let none = near-new rows old files sorted planned never unplanned in
+    omega (arith, ap length (near-added rows sorted old new files e planned more), length-put_new (after old rows).near files e none, ap length more, length-put_new old.near files e (is_none (value_of pair_cmp old.near files) unplanned))
+
+-- the tallies and the least distances stay in step
+pub after-kept : (plan : PlanView) (rows : PairsView) → AreTallyRows rows.tallies rows.pairs → AreTallyRows (after plan rows).tallies (after plan rows).pairs
+unfolding after
+after-kept plan rows kept = with-tallies plan.tallies rows.tallies rows.pairs kept
+
+-- the pairs after a plan are those of the groups where the tallies count the near pairs by the names of the files that are live then
+pub of-after : (R : Relations) (plan : PlanView) (rows : PairsView) (live : Option (FileNo × Bool)) → plan.live ≡ live → AreTallyRows rows.tallies rows.pairs
+    → AreCounted (live_name R (with_live live rows.gone)) (after plan rows) → AreOf R (after plan rows)
+of-after R plan rows live is kept counted =
+    of-counted R (after plan rows) (after-kept plan rows kept) (subst (λ gone. AreCounted (live_name R gone) (after plan rows)) (sym (after-live plan rows live is)) counted)
+
+-- what an empty plan counts
+pub counts-nothing : (R : Relations) (plan : PlanView) (rows : PairsView) → plan.near ≡ [] → plan.tallies ≡ [] → plan.live ≡ None → AreOf R rows
+    → (name : ℕ × ℕ) (d : ℕ) → planned_count plan rows name d ≡ count_named (live_name R rows.gone) rows.near name d
+counts-nothing R plan rows near tallies live of name d =
+    let same = after-nothing plan rows near tallies live in
+    let counted = subst (λ (r : PairsView). AreCounted (live_name R rows.gone) r) (sym same) (counted-of R rows of) in
+    counts-after (live_name R rows.gone) plan rows counted name d ∙ ap (λ (r : PairsView). count_named (live_name R rows.gone) r.near name d) same
 
 -- ---- deleted files
 not-not : (b : Bool) → not (not b) ≡ b
@@ -123,14 +248,10 @@ gone_if_there gone f answer told =
     same_from_decides answer (list_any (λ g. g == f) gone) told found ∙ sym (not-not (list_any (λ g. g == f) gone))
 
 -- ---- no pairs at all
-pub of-empty : (R : Relations) (rows : PairsView) → rows.near ≡ [] → rows.pairs ≡ [] → AreOf R rows
-unfolding potential_at
-of-empty R rows near pairs = record {
-  each = λ j k. ap (λ list. value_of pair_cmp list (j, k)) pairs ∙ by (may_pair R j k) ∙ sym (ap (λ list. potential_at R rows.gone list j k) near);
-} where
-  none : Option ℕ
-  none = None
-
-  by : (may : Bool) → none ≡ cond may none none
-  by true = refl
-  by false = refl
+pub of-empty : (R : Relations) (rows : PairsView) → rows.near ≡ [] → rows.pairs ≡ [] → rows.tallies ≡ [] → AreOf R rows
+unfolding AreCounted IsStrictlySortedBy
+of-empty R rows near pairs tallies =
+    let of : AreOf R (record { near = []; gone = rows.gone; pairs = []; tallies = [] }) = of-counted R (record { near = []; gone = rows.gone; pairs = []; tallies = [] }) no_rows (λ name d. refl) in
+    subst (AreOf R) (sym (λ i. record { near = near i; gone = rows.gone; pairs = pairs i; tallies = tallies i })) of where
+      no_rows : AreTallyRows [] []
+      no_rows = record { sorted = tt; pairs_sorted = tt; some = λ name tally has. cc; least = λ name. refl }

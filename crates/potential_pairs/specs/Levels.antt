@@ -8,7 +8,6 @@ use Rattle.spare_tables.specs.Keys.{value_of}
 use Rattle.spare_tables.specs.Order.{pair_cmp}
 use Rattle.spare_tables.specs.Pairs.{IsBefore}
 use Rattle.potential_pairs.specs.Pages.{is_behind}
-use Rattle.potential_pairs.specs.Planning.{Change}
 use Rattle.potential_pairs.specs.Potential.{Row}
 
 -- the rows ascend by their names
@@ -40,12 +39,6 @@ IsLevelOf name (Some d) level = level ≡ (d, name.0, name.1)
 abbrev pub one_at : ℕ → Option ℕ → ℕ
 one_at d None = 0
 one_at d (Some e) = if e == d then 1 else 0
-
--- changes of different names, ascending, which rows with their levels can take
-pub record AreChanges (changes : List Change) : Type 0 where
-  pub sorted : Ascend changes
-  pub named : All IsName (keys_of changes)
-  pub shallow : All (λ d. IfSome d IsDistance) (values_of changes)
 
 -- the first name of a distance that comes after the place, where there is any
 abbrev pub IsFirstBehind : List Row → ℕ → Option (FileNo × FileNo) → Option (ℕ × ℕ) → Type 0

@@ -1,5 +1,7 @@
+pub mod Keeping
 pub mod Levels
 pub mod Naming
 pub mod Pages
 pub mod Planning
 pub mod Potential
+pub mod Tallies

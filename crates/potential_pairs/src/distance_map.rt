@@ -2,13 +2,12 @@ ghost use Rattle.std.specs.Prelude.{◌≡◌, ◌<◌, ◌≤◌, ◌+◌, ◌^
 ghost use Rattle.spare_tables.specs.Keys.{value_of};
 ghost use Rattle.spare_tables.specs.Order.{pair_cmp};
 ghost use Rattle.spare_tables.specs.Pairs.{IsBefore};
-ghost use Rattle.potential_pairs.specs.Levels.{AreChanges, AreHeads, IsDistance, IsFirstBehind, IsLevelOf, IsName, one_at};
+ghost use Rattle.potential_pairs.specs.Levels.{AreHeads, IsDistance, IsFirstBehind, IsLevelOf, IsName, one_at};
 ghost use Rattle.potential_pairs.specs.Pages.{is_behind, named, page_of, within};
-ghost use Rattle.potential_pairs.specs.Planning.{with_changes, with_distance};
+ghost use Rattle.potential_pairs.specs.Planning.{with_value};
 
 use crate::heads::{Heads, LEVELS, least_head, levels_within};
-use crate::lists::PairList;
-use media_types::{FileNo, NoMemory, Steps};
+use media_types::{FileNo, NoMemory, PairList, Steps};
 use spare_tables::{KeyMap, TripleSet};
 use std::alloc::Global;
 use std::marker::Model;
@@ -63,23 +62,12 @@ impl DistanceMap {
         self.levels.reserve(n)
     }
 
-    /// Makes changes in the room that was made.
-    pub fn set_all(&mut self, changes: &[((u32, u32), Option<u8>)])
-        requires room { length changes.now ≤ self.old.spare }
-        requires small { AreChanges changes.now }
-        ensures { self.new.rows ≡ with_changes changes.now self.old.rows }
-    {
-        for (name, distance) in changes {
-            self.set(*name, *distance);
-        }
-    }
-
-    // Sets the distance of a pair, or takes the pair out.
-    fn set(&mut self, name: (u32, u32), distance: Option<u8>)
+    /// Sets the distance of a pair in the room that was made, or takes the pair out.
+    pub fn set(&mut self, name: (u32, u32), distance: Option<u8>)
         requires room { 1 ≤ self.old.spare }
         requires named { IsName name }
         requires shallow { IfSome distance IsDistance }
-        ensures rows { self.new.rows ≡ with_distance self.old.rows name distance }
+        ensures rows { self.new.rows ≡ with_value self.old.rows name distance }
         ensures spare { self.old.spare ≤ self.new.spare + 1 }
     {
         let old = set_distance(&mut self.distances, name, distance);
@@ -180,7 +168,7 @@ fn set_distance(
 ) -> Option<u8>
     requires { 1 ≤ distances.old.spare }
     ensures old { result ≡ value_of pair_cmp distances.old.rows name }
-    ensures rows { distances.new.rows ≡ with_distance distances.old.rows name distance }
+    ensures rows { distances.new.rows ≡ with_value distances.old.rows name distance }
     ensures spare { distances.old.spare ≤ distances.new.spare + 1 }
 {
     match distance {

@@ -5,14 +5,17 @@
 
 mod distance_map;
 mod heads;
-mod lists;
 mod names;
+mod near_map;
 mod pair_plan;
 mod pairs;
+mod tally;
+mod tally_map;
+mod theorems;
 
-pub use lists::{NearList, PairList};
 pub use pair_plan::PairPlan;
 pub use pairs::Pairs;
+pub use theorems::laws;
 
 #[cfg(test)]
 mod tests;

@@ -1,9 +1,14 @@
-ghost use Rattle.std.specs.Prelude.{◌≡◌, ◌<◌, ◌≤◌, ◌↔◌, IsTrue, All};
+ghost use Rattle.std.specs.Prelude.{◌≡◌, ◌<◌, ◌≤◌, ◌↔◌, List, IfOk, IsTrue, All};
+ghost use Rattle.media_types.specs.declared.decision.Decision.{Decision};
 ghost use Rattle.media_types.specs.declared.limits.TheConstants.{MAX_DISTANCE};
+ghost use Rattle.potential_pairs.specs.Potential.{AreBelow, AreOf};
+ghost use Rattle.relation_groups.specs.Laws.{AreOfTwo};
+ghost use Rattle.relation_groups.specs.Reading.{relations_in, size_of};
+ghost use Rattle.relation_groups.specs.Relations.{at_first, relations};
 
 use super::*;
-use media_types::{Code, FileNo, MAX_DISTANCE, MAX_FILES, NoMemory, Steps};
-use relation_groups::Groups;
+use media_types::{Code, FileNo, MAX_DISTANCE, MAX_FILES, NearList, NoMemory, PairList, Steps};
+use relation_groups::{Groups, laws};
 use std::alloc::Global;
 use std::marker::Brand;
 use std::process::Abort;
@@ -19,7 +24,9 @@ const ALTERNATES: Code = Code::Alternates;
 
 const NOT_RELATED: Code = Code::NotRelated;
 
-fn groups_of(rt: &impl Abort, alloc: Global, files: u32) -> Result<Groups, NoMemory> {
+fn groups_of(rt: &impl Abort, alloc: Global, files: u32) -> Result<Groups, NoMemory>
+    ensures { IfOk result (λ groups. relations_in groups ≡ at_first) }
+{
     let mut groups = Groups::new(alloc);
     for _ in 0..files {
         groups.reserve_file()?;
@@ -88,7 +95,10 @@ fn pairs_of<L: Ledger>(
     found: &NearList,
     times: u32,
     steps: &mut Steps<L>,
-) -> Result<Pairs, NoMemory> {
+) -> Result<Pairs, NoMemory>
+    ensures of { IfOk result (λ pairs. AreOf (relations_in groups.now) pairs.rows) }
+    ensures below { IfOk result (λ pairs. AreBelow (size_of groups.now) pairs.rows.near) }
+{
     let mut pairs = Pairs::new(alloc);
     assert!(rt; are_pairs(found.as_slice(), groups.len()));
     assert!(rt; agree(found.as_slice()));
@@ -248,6 +258,211 @@ fn alternates_and_unrelated_files_are_no_pair(rt: HostRuntime) -> Result<(), Fai
             found: &[(0, 1, 1), (1, 2, 2), (0, 2, 3), (2, 3, 16)],
             pairs: &[(2, 3, 16)],
         },
+    )?;
+    Ok(())
+}
+
+// Makes a decision in the groups and in the pairs.
+fn decide_in_both<L: Ledger>(
+    rt: &impl Abort,
+    groups: &mut Groups,
+    pairs: &mut Pairs,
+    steps: &mut Steps<L>,
+    row: (Code, u32, u32),
+) -> Result<(), NoMemory>
+    requires made { (ds : List Decision) × AreOfTwo ds × (relations_in groups.old ≡ relations ds) }
+    requires of { AreOf (relations_in groups.old) pairs.old.rows }
+    requires below { AreBelow (size_of groups.old) pairs.old.rows.near }
+    ensures made { (ds : List Decision) × AreOfTwo ds × (relations_in groups.new ≡ relations ds) }
+    ensures of { AreOf (relations_in groups.new) pairs.new.rows }
+    ensures below { AreBelow (size_of groups.new) pairs.new.rows.near }
+{
+    laws();
+    assert!(rt; row.1 < groups.len() && row.2 < groups.len() && row.1 != row.2);
+    let moved = groups.plan_decide(row.0, FileNo(row.1), FileNo(row.2), steps)?;
+    let plan = pairs.plan_moved(&moved, groups, steps)?;
+    pairs.commit(plan);
+    groups.commit(moved);
+    Ok(())
+}
+
+// Sets whether a file is live.
+fn set_live<L: Ledger>(
+    rt: &impl Abort,
+    groups: &Groups,
+    pairs: &mut Pairs,
+    steps: &mut Steps<L>,
+    row: (u32, bool),
+) -> Result<(), NoMemory>
+    requires of { AreOf (relations_in groups.now) pairs.old.rows }
+    requires below { AreBelow (size_of groups.now) pairs.old.rows.near }
+    ensures of { AreOf (relations_in groups.now) pairs.new.rows }
+    ensures below { AreBelow (size_of groups.now) pairs.new.rows.near }
+{
+    assert!(rt; row.0 < groups.len());
+    let plan = pairs.plan_live(FileNo(row.0), row.1, groups, steps)?;
+    pairs.commit(plan);
+    Ok(())
+}
+
+// Whether two files are of the groups of two kings.
+fn are_across(groups: &Groups, files: (u32, u32), kings: (u32, u32)) -> bool {
+    files.0 < groups.len()
+        && files.1 < groups.len()
+        && [kings, (kings.1, kings.0)].contains(&(
+            groups.king_of(FileNo(files.0)).0,
+            groups.king_of(FileNo(files.1)).0,
+        ))
+}
+
+// The least distance of the live near pairs of two groups.
+fn plain_least(
+    groups: &Groups,
+    near: &[(u32, u32, u8)],
+    gone: &[u32],
+    kings: (u32, u32),
+) -> Option<u8> {
+    let mut least = None;
+    for (f, g, distance) in near {
+        if !gone.contains(f) && !gone.contains(g) && are_across(groups, (*f, *g), kings) {
+            least = match least {
+                Some(old) if old <= *distance => least,
+                _ => Some(*distance),
+            };
+        }
+    }
+    least
+}
+
+// The distance of the potential pair of two files, by all near pairs.
+fn plain_distance(
+    rt: &impl Abort,
+    groups: &Groups,
+    near: &[(u32, u32, u8)],
+    gone: &[u32],
+    kings: (u32, u32),
+) -> Option<u8> {
+    assert!(rt; kings.0 < groups.len() && kings.1 < groups.len());
+    let (j, k) = (FileNo(kings.0), FileNo(kings.1));
+    if j.0 >= k.0 || groups.class_of(j) == groups.class_of(k) || groups.is_not_related(j, k) {
+        return None;
+    }
+    plain_least(groups, near, gone, kings)
+}
+
+// That the pairs are those that all near pairs make of the groups, for four files.
+fn assert_plain<L: Ledger>(
+    rt: &impl Abort,
+    groups: &Groups,
+    pairs: &Pairs,
+    near: &[(u32, u32, u8)],
+    gone: &[u32],
+    steps: &mut Steps<L>,
+) {
+    for (j, k) in [
+        (0, 1),
+        (0, 2),
+        (0, 3),
+        (1, 2),
+        (1, 3),
+        (2, 3),
+        (1, 0),
+        (2, 2),
+    ] {
+        let want = plain_distance(rt, groups, near, gone, (j, k));
+        assert_eq!(rt;
+            pairs.is_pair(FileNo(j), FileNo(k), steps),
+            want,
+            "{j} and {k}"
+        );
+    }
+    assert_eq!(rt; pairs.near_len(), near.len() as u64);
+}
+
+// All near pairs of four files.
+const NEAR: [(u32, u32, u8); 6] = [
+    (0, 1, 5),
+    (0, 2, 4),
+    (0, 3, 3),
+    (1, 2, 6),
+    (1, 3, 1),
+    (2, 3, 2),
+];
+
+// Makes a decision, and then deletes the last file and takes it back.
+fn follow<L: Ledger>(
+    rt: &impl Abort,
+    groups: &mut Groups,
+    pairs: &mut Pairs,
+    steps: &mut Steps<L>,
+    row: (Code, u32, u32),
+) -> Result<(), NoMemory>
+    requires made { (ds : List Decision) × AreOfTwo ds × (relations_in groups.old ≡ relations ds) }
+    requires of { AreOf (relations_in groups.old) pairs.old.rows }
+    requires below { AreBelow (size_of groups.old) pairs.old.rows.near }
+    ensures made { (ds : List Decision) × AreOfTwo ds × (relations_in groups.new ≡ relations ds) }
+    ensures of { AreOf (relations_in groups.new) pairs.new.rows }
+    ensures below { AreBelow (size_of groups.new) pairs.new.rows.near }
+{
+    decide_in_both(rt, groups, pairs, steps, row)?;
+    assert_plain(rt, groups, pairs, &NEAR, &[], steps);
+    set_live(rt, groups, pairs, steps, (3, false))?;
+    assert_plain(rt, groups, pairs, &NEAR, &[3], steps);
+    set_live(rt, groups, pairs, steps, (3, true))?;
+    assert_plain(rt, groups, pairs, &NEAR, &[], steps);
+    Ok(())
+}
+
+fn follow_all<L: Ledger>(
+    rt: &impl Abort,
+    groups: &mut Groups,
+    pairs: &mut Pairs,
+    steps: &mut Steps<L>,
+    decisions: &[(Code, u32, u32)],
+) -> Result<(), NoMemory>
+    requires made { (ds : List Decision) × AreOfTwo ds × (relations_in groups.old ≡ relations ds) }
+    requires of { AreOf (relations_in groups.old) pairs.old.rows }
+    requires below { AreBelow (size_of groups.old) pairs.old.rows.near }
+{
+    for decision in decisions {
+        follow(rt, groups, pairs, steps, *decision)?;
+    }
+    Ok(())
+}
+
+fn four_files<L: Ledger>(
+    rt: &(impl Abort + Threads),
+    alloc: Global,
+    blank: Blank,
+    decisions: &[(Code, u32, u32)],
+) -> Result<(), NoMemory>
+    requires name { blank.name ≡ L.name }
+    requires parts { blank.parts ≡ L.parts }
+    requires some { 0 < L.parts }
+{
+    let mut steps = Steps::<L>::new(rt, blank);
+    let mut groups = groups_of(rt, alloc, 4)?;
+    let found = list_of(alloc, &NEAR)?;
+    let mut pairs = pairs_of(rt, alloc, &groups, &found, 1, &mut steps)?;
+    follow_all(rt, &mut groups, &mut pairs, &mut steps, decisions)
+}
+
+// Files 2 and 3 become duplicates, and then 3 and 1; 3 becomes king and leaves again; 0 and 1 become
+// alternates; 2 isn't related to either.
+#[test]
+fn pairs_follow_the_groups(rt: HostRuntime) -> Result<(), Fail> {
+    four_files::<Brand>(
+        &rt,
+        rt.alloc(),
+        Blank::new(1),
+        &[
+            (SAME, 2, 3),
+            (BETTER, 3, 1),
+            (BETTER, 3, 2),
+            (ALTERNATES, 2, 3),
+            (ALTERNATES, 0, 1),
+            (NOT_RELATED, 2, 0),
+        ],
     )?;
     Ok(())
 }

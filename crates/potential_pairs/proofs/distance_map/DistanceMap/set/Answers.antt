@@ -3,7 +3,7 @@ use Rattle.std.specs.List.{Contains}
 use Rattle.spare_tables.specs.Keys.{value_of}
 use Rattle.spare_tables.specs.Order.{pair_cmp}
 use Rattle.potential_pairs.specs.Levels.{IsLevelOf, one_at}
-use Rattle.potential_pairs.specs.Planning.{with_distance}
+use Rattle.potential_pairs.specs.Planning.{with_value}
 use Rattle.potential_pairs.proofs.InStep.{old-shallow, old-counted, new-counted, in_step-set}
 use Rattle.potential_pairs.proofs.distance_map.DistanceMap.set.Goals as goal
 
@@ -21,7 +21,7 @@ pub enter_level-requires-clause-counted : goal.enter_level-requires-clause-count
 enter_level-requires-clause-counted c =
     let map = c.self.inside in
     let took : (e : ℕ) → get_or c.leave_level.new.counts e 0 + one_at e (value_of pair_cmp map.distances.rows c.args.name) ≡ get_or map.counts e 0 = rw c.set_distance-old.ensures.old at c.leave_level.ensures.counts in
-    let fits : length (with_distance map.distances.rows c.args.name c.args.distance) < 2 ^ 64 = omega (arith, c.len-pairs.ensures.rows, ap length c.set_distance-old.ensures.rows, c.len-pairs.type_inv) in
+    let fits : length (with_value map.distances.rows c.args.name c.args.distance) < 2 ^ 64 = omega (arith, c.len-pairs.ensures.rows, ap length c.set_distance-old.ensures.rows, c.len-pairs.type_inv) in
     new-counted map.distances.rows map.levels.rows map.counts c.leave_level.new.counts c.args.name c.args.distance c.self.invariant c.requires.shallow fits took
 
 pub invariant_of-self : goal.invariant_of-self
