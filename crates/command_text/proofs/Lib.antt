@@ -2,13 +2,14 @@ mod DecisionLaws
 mod DigitLaws
 mod EachLaws
 mod FieldLaws
-mod FirstFile
+mod FirstItem
 mod HexNumbers
 mod ImportLaws
 mod Lines
 mod LineLaws
 mod Meaning
 mod NameLaws
+mod PairLaws
 mod Putting
 mod SearchLaws
 mod Steps

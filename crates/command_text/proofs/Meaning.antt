@@ -7,7 +7,7 @@ use Rattle.media_base.specs.declared.refusal.FieldName.{FieldName}
 use Rattle.media_base.specs.declared.refusal.Refusal.{Refusal}
 use Rattle.media_base.specs.declared.refusal.Refusal.TheVariants as refusals
 use Rattle.command_text.specs.Reading.{◌>>=◌}
-use Rattle.command_text.specs.Spelling.{IsNamed, AsksImport, AsksDecide, AsksUndo, AsksRelations, AsksSearchDistance, AsksSearchJob, AsksSearchFiles, IsFirstOf, IsFirstFault, HasBadHash, HasTooManyHashes, HasBadDistance, HasBadNumber}
+use Rattle.command_text.specs.Spelling.{IsNamed, AsksImport, AsksDecide, AsksUndo, AsksRelations, AsksPairs, AsksPairCount, AsksSearchDistance, AsksSearchJob, AsksSearchFiles, HasForm, IsFirstOf, IsFirstFault, HasBadHash, HasTooManyHashes, HasBadDistance, HasBadNumber}
 use Rattle.command_text.specs.declared.command_name.CommandName.TheVariants as names
 use Rattle.command_text.proofs.Steps.{Tells, Reads}
 
@@ -17,6 +17,8 @@ Asks value (commands.Import file) = AsksImport value file
 Asks value (commands.Decide decision) = AsksDecide value decision
 Asks value (commands.Undo decision) = AsksUndo value decision
 Asks value (commands.Relations file) = AsksRelations value file
+Asks value (commands.Pairs page) = AsksPairs value page
+Asks value (commands.PairCount distance) = AsksPairCount value distance
 Asks value (commands.SearchDistance distance) = AsksSearchDistance value distance
 Asks value (commands.SearchJob n) = AsksSearchJob value n
 Asks value (commands.SearchFiles searching) = AsksSearchFiles value searching
@@ -74,6 +76,13 @@ pub explained_next : {A : Type 0} {Says : A → Type 0} {value : Data} {name : F
 explained_next {A} {Says} {value} {name} {names} {reading} f reads rest = record {
   means = next_means value name names reading f reads rest;
   blames = next_blames value name names reading f reads rest;
+}
+
+-- a field has its form, however it is read
+pub explained_formed : {value : Data} {name : FieldName} {names : List FieldName} {reading : Result Command Refusal} → HasForm value name → Explained value names reading → Explained value (name ∷ names) reading
+explained_formed form rest = record {
+  means = λ faulty. rest.means (λ field first. faulty field (inr (form, first)));
+  blames = λ field first. elim first [ inl here ↦ absurd (here.1 form) | inr later ↦ rest.blames field later.1 ];
 }
 
 -- all fields are read

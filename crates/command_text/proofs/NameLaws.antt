@@ -13,7 +13,7 @@ use Rattle.command_text.proofs.Steps.{Reads, reads_formed}
 
 -- the names, in the order in which they are tried
 abbrev all_names : List CommandName
-all_names = names.Import ∷ names.Decide ∷ names.Undo ∷ names.Relations ∷ names.SearchDistance ∷ names.SearchJob ∷ names.SearchFiles ∷ names.Queues ∷ names.RebalanceJob ∷ []
+all_names = names.Import ∷ names.Decide ∷ names.Undo ∷ names.Relations ∷ names.Pairs ∷ names.PairCount ∷ names.SearchDistance ∷ names.SearchJob ∷ names.SearchFiles ∷ names.Queues ∷ names.RebalanceJob ∷ []
 
 abbrev first_of : List CommandName → List ℕ → Option CommandName
 first_of [] text = None
@@ -41,6 +41,8 @@ name_of-text names.Import = refl
 name_of-text names.Decide = refl
 name_of-text names.Undo = refl
 name_of-text names.Relations = refl
+name_of-text names.Pairs = refl
+name_of-text names.PairCount = refl
 name_of-text names.SearchDistance = refl
 name_of-text names.SearchJob = refl
 name_of-text names.SearchFiles = refl

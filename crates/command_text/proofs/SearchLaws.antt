@@ -9,9 +9,8 @@ use Rattle.media_types.specs.declared.searching.Searching.{Searching}
 use Rattle.media_base.specs.declared.command.Command.TheVariants as commands
 use Rattle.media_base.specs.declared.refusal.FieldName.TheVariants as fields
 use Rattle.media_base.specs.declared.refusal.Refusal.TheVariants as refusals
-use Rattle.command_text.specs.Reading.{distance_of, batch_of, files_batch, search_distance_at, search_job_at, search_files_at, command_at}
-use Rattle.command_text.specs.Spelling.{HasNumber, HasFiles, IsNamed, AsksSearchDistance, AsksSearchJob, AsksSearchFiles, IsFarther, HasBadDistance, far_search_distance, far_search_files, HasBadNumber, wrong_search_job, wrong_search_files, fields_of}
-use Rattle.command_text.specs.declared.command_name.CommandName.{CommandName}
+use Rattle.command_text.specs.Reading.{distance_of, batch_of, files_batch, search_distance_at, search_job_at, search_files_at}
+use Rattle.command_text.specs.Spelling.{HasNumber, HasFiles, IsNamed, AsksSearchDistance, AsksSearchJob, AsksSearchFiles, IsFarther, far_search_distance, far_search_files, wrong_search_job, wrong_search_files, fields_of}
 use Rattle.command_text.specs.declared.command_name.CommandName.TheVariants as names
 use Rattle.command_text.proofs.FieldLaws.{ReadsNumber, reads_number, reads_files}
 use Rattle.command_text.proofs.Meaning.{Explained, explained_next, explained_last, tested}
@@ -51,7 +50,7 @@ module _ (value : Data) where
   reads_distance : ReadsNumber value fields.Distance (2 ^ 64)
   reads_distance = reads_number value fields.Distance (2 ^ 64) (λ form. form) (λ form. form)
 
-  reads_n : ReadsNumber value fields.N (2 ^ 64)
+  pub reads_n : ReadsNumber value fields.N (2 ^ 64)
   reads_n = reads_number value fields.N (2 ^ 64) (λ form. form) (λ form. form)
 
 -- ---- the distance of searches
@@ -69,7 +68,7 @@ unfolding search_distance_at
 search_distance_at-asks value distance asks =
     rw ((reads_distance value).tells.good distance asks.distance, (tells_distance distance).good distance (refl, asks.small)) refl
 
-search_distance_at-far : (value : Data) → IsFarther value → search_distance_at value ≡ Err refusals.BadDistance
+pub search_distance_at-far : (value : Data) → IsFarther value fields.Distance → search_distance_at value ≡ Err refusals.BadDistance
 unfolding search_distance_at
 search_distance_at-far value p =
     rw ((reads_distance value).tells.good p.n p.is, (tells_distance p.n).bad p.far) refl
@@ -89,7 +88,7 @@ unfolding search_job_at
 search_job_at-asks value n asks =
     rw ((reads_n value).tells.good n asks.n, (tells_batch n).good n (refl, asks.batch)) refl
 
-search_job_at-wrong : (value : Data) (n : ℕ) → HasNumber value fields.N (2 ^ 64) n → ¬ (IsBatch n) → search_job_at value ≡ Err refusals.BadNumber
+pub search_job_at-wrong : (value : Data) (n : ℕ) → HasNumber value fields.N (2 ^ 64) n → ¬ (IsBatch n) → search_job_at value ≡ Err refusals.BadNumber
 unfolding search_job_at
 search_job_at-wrong value n is lacks =
     rw ((reads_n value).tells.good n is, (tells_batch n).bad lacks) refl
@@ -121,23 +120,13 @@ search_files_at-asks value searching asks =
     let files = (tells_files_batch searching.files).good searching.files (refl, asks.batch) in
     rw (listed, number, distance, files) refl
 
-search_files_at-far : (value : Data) (files : List FileNo) → HasFiles value fields.Files files → IsFarther value → search_files_at value ≡ Err refusals.BadDistance
+pub search_files_at-far : (value : Data) (files : List FileNo) → HasFiles value fields.Files files → IsFarther value fields.Distance → search_files_at value ≡ Err refusals.BadDistance
 unfolding search_files_at
 search_files_at-far value files are p =
     rw ((reads_files value).tells.good files are, (reads_distance value).tells.good p.n p.is, (tells_distance p.n).bad p.far) refl
 
-search_files_at-wrong : (value : Data) (files : List FileNo) → HasFiles value fields.Files files → ¬ (IsBatch (length files))
+pub search_files_at-wrong : (value : Data) (files : List FileNo) → HasFiles value fields.Files files → ¬ (IsBatch (length files))
     → (distance : ℕ) → HasNumber value fields.Distance (2 ^ 64) distance → distance ≤ MAX_DISTANCE → search_files_at value ≡ Err refusals.BadNumber
 unfolding search_files_at
 search_files_at-wrong value files are lacks distance is small =
     rw ((reads_files value).tells.good files are, (reads_distance value).tells.good distance is, (tells_distance distance).good distance (refl, small), (tells_files_batch files).bad lacks) refl
-
--- ---- what is wrong, by the command
-
-pub bad_distance_at : (value : Data) → HasBadDistance value → (name : CommandName) × IsNamed value name × (command_at name value ≡ Err refusals.BadDistance)
-bad_distance_at value (far_search_distance asks far) = (names.SearchDistance, asks, search_distance_at-far value far)
-bad_distance_at value (far_search_files asks files far) = (names.SearchFiles, asks, search_files_at-far value files.0 files.1 far)
-
-pub bad_number_at : (value : Data) → HasBadNumber value → (name : CommandName) × IsNamed value name × (command_at name value ≡ Err refusals.BadNumber)
-bad_number_at value (wrong_search_job asks n is lacks) = (names.SearchJob, asks, search_job_at-wrong value n is lacks)
-bad_number_at value (wrong_search_files asks files are lacks distance is small) = (names.SearchFiles, asks, search_files_at-wrong value files are lacks distance is small)

@@ -7,6 +7,11 @@ use Rattle.media_base.specs.declared.refusal.Refusal.TheVariants as refusals
 use Rattle.command_text.specs.Reading.{◌>>=◌, formed}
 use Rattle.command_text.specs.Spelling.{HasForm}
 
+-- two steps and then a third
+pub then_both : {A B C : Type 0} (reading : Result A Refusal) (f : A → Result B Refusal) (g : B → Result C Refusal) → ((reading >>= f) >>= g) ≡ (reading >>= (λ x. f x >>= g))
+then_both (Ok x) f g = refl
+then_both (Err why) f g = refl
+
 -- It gives just the values that are good, and refuses where it is bad.
 pub record Tells {A : Type 0} (reading : Result A Refusal) (why : Refusal) (Bad : Type 0) (Good : A → Type 0) : Type 0 where
   pub either : (Bad × (reading ≡ Err why)) ⊎ ((x : A) × Good x × (reading ≡ Ok x))

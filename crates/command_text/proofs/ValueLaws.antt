@@ -8,20 +8,23 @@ use Rattle.media_base.specs.declared.refusal.FieldName.TheVariants as fields
 use Rattle.media_base.specs.declared.refusal.Refusal.{Refusal}
 use Rattle.media_base.specs.declared.refusal.Refusal.TheVariants as refusals
 use Rattle.command_text.specs.Reading.{◌>>=◌, name_at, command_at, value_command}
-use Rattle.command_text.specs.Spelling.{IsNamed, fields_of, IsFirstFault, of_none, of_command}
+use Rattle.command_text.specs.Spelling.{IsNamed, fields_of, IsFirstFault, of_none, of_command, HasBadDistance, far_pairs, far_pair_count, far_search_distance, far_search_files, HasBadNumber, wrong_pairs, wrong_search_job, wrong_search_files}
 use Rattle.command_text.specs.declared.command_name.CommandName.{CommandName}
 use Rattle.command_text.specs.declared.command_name.CommandName.TheVariants as names
 use Rattle.command_text.proofs.DecisionLaws.{decide_explained, decide_at-asks, undo_explained, undo_at-asks, relations_explained, relations_at-asks}
 use Rattle.command_text.proofs.ImportLaws.{import_explained, import_at-asks, import_at-bad_hash, import_at-too_many}
 use Rattle.command_text.proofs.Meaning.{Asks, Earns, Means, blamed, Explained, explained_last}
 use Rattle.command_text.proofs.NameLaws.{reads_name}
-use Rattle.command_text.proofs.SearchLaws.{search_distance_explained, search_distance_at-asks, search_job_explained, search_job_at-asks, search_files_explained, search_files_at-asks, bad_distance_at, bad_number_at}
+use Rattle.command_text.proofs.PairLaws.{pairs_explained, pairs_at-asks, pairs_at-far, pairs_at-wrong, pair_count_explained, pair_count_at-asks, pair_count_at-far}
+use Rattle.command_text.proofs.SearchLaws.{search_distance_explained, search_distance_at-asks, search_job_explained, search_job_at-asks, search_files_explained, search_files_at-asks, search_distance_at-far, search_job_at-wrong, search_files_at-far, search_files_at-wrong}
 
 explained : (value : Data) (name : CommandName) → IsNamed value name → Explained value (fields_of name) (command_at name value)
 explained value names.Import asks = import_explained value asks
 explained value names.Decide asks = decide_explained value asks
 explained value names.Undo asks = undo_explained value asks
 explained value names.Relations asks = relations_explained value asks
+explained value names.Pairs asks = pairs_explained value asks
+explained value names.PairCount asks = pair_count_explained value asks
 explained value names.SearchDistance asks = search_distance_explained value asks
 explained value names.SearchJob asks = search_job_explained value asks
 explained value names.SearchFiles asks = search_files_explained value asks
@@ -50,6 +53,8 @@ asked value (commands.Import file) asks = named value names.Import asks.asks ∙
 asked value (commands.Decide decision) asks = named value names.Decide asks.asks ∙ decide_at-asks value decision asks
 asked value (commands.Undo decision) asks = named value names.Undo asks.asks ∙ undo_at-asks value decision asks
 asked value (commands.Relations file) asks = named value names.Relations asks.asks ∙ relations_at-asks value file asks
+asked value (commands.Pairs page) asks = named value names.Pairs asks.asks ∙ pairs_at-asks value page asks
+asked value (commands.PairCount distance) asks = named value names.PairCount asks.asks ∙ pair_count_at-asks value distance asks
 asked value (commands.SearchDistance distance) asks = named value names.SearchDistance asks.asks ∙ search_distance_at-asks value distance asks
 asked value (commands.SearchJob n) asks = named value names.SearchJob asks.asks ∙ search_job_at-asks value n asks
 asked value (commands.SearchFiles searching) asks = named value names.SearchFiles asks.asks ∙ search_files_at-asks value searching asks
@@ -59,6 +64,17 @@ asked value commands.RebalanceJob asks = named value names.RebalanceJob asks
 faulty : (value : Data) (field : FieldName) → IsFirstFault value field → value_command value ≡ blamed field
 faulty value field (of_none is lacks) = nameless value ((reads_name value).tells.bad lacks) ∙ ap blamed (sym is)
 faulty value field (of_command name asks first) = named value name asks ∙ (explained value name asks).blames field first
+
+bad_distance_at : (value : Data) → HasBadDistance value → (name : CommandName) × IsNamed value name × (command_at name value ≡ Err refusals.BadDistance)
+bad_distance_at value (far_pairs number farthest forms far) = (names.Pairs, forms.asks, pairs_at-far value number farthest forms far)
+bad_distance_at value (far_pair_count asks far) = (names.PairCount, asks, pair_count_at-far value far)
+bad_distance_at value (far_search_distance asks far) = (names.SearchDistance, asks, search_distance_at-far value far)
+bad_distance_at value (far_search_files asks files far) = (names.SearchFiles, asks, search_files_at-far value files.0 files.1 far)
+
+bad_number_at : (value : Data) → HasBadNumber value → (name : CommandName) × IsNamed value name × (command_at name value ≡ Err refusals.BadNumber)
+bad_number_at value (wrong_pairs number farthest forms small lacks) = (names.Pairs, forms.asks, pairs_at-wrong value number farthest forms small lacks)
+bad_number_at value (wrong_search_job asks n is lacks) = (names.SearchJob, asks, search_job_at-wrong value n is lacks)
+bad_number_at value (wrong_search_files asks files are lacks distance is small) = (names.SearchFiles, asks, search_files_at-wrong value files are lacks distance is small)
 
 earned : (value : Data) (why : Refusal) → Earns value why → value_command value ≡ Err why
 earned value (refusals.NotARequest field) fault = faulty value field fault

@@ -1,7 +1,7 @@
 -- What a request line asks, with the tests in their order: the first that fails names the refusal.
-use Rattle.std.specs.Prelude.{◌≡◌, ℕ, ◌^◌, ◌==◌, ◌⊎◌, ◌&&◌, List, [], ◌∷◌, codes, length, nat_lt, nat_le, if◌then◌else◌, Option, Some, None, option_map, option_and_then, Result, Ok, Err, MatchResult}
+use Rattle.std.specs.Prelude.{◌≡◌, ℕ, Bool, ◌^◌, ◌==◌, ◌⊎◌, ◌&&◌, List, [], ◌∷◌, codes, length, nat_lt, nat_le, if◌then◌else◌, Option, Some, None, option_map, option_and_then, Result, Ok, Err, MatchResult}
 use Rattle.std.specs.Int.{w64, from_be_bytes}
-use Rattle.std.specs.Option.{ok_or}
+use Rattle.std.specs.Option.{is_none, ok_or}
 use Rattle.std.specs.Result.{result_ok}
 use Rattle.std.specs.Str.{is_utf8, bytes_eq}
 use Rattle.hex.specs.Hex.{decode_sized}
@@ -167,6 +167,21 @@ files_batch files = do
   count ← batch_of (length files)
   Ok files
 
+-- ---- the fields of a page of pairs
+
+-- neither of the two fields of a place is there
+abbrev pub has_no_place : Data → Bool
+has_no_place value = is_none (field_of fields.AfterJ value) && is_none (field_of fields.AfterK value)
+
+-- the two numbers of the pair that the page comes after, or none where neither field is there
+unfoldable pub place_at : Data → Result (Option (FileNo × FileNo)) Refusal
+place_at value =
+    if has_no_place value then Ok None
+    else do
+      j ← whole_number_at fields.AfterJ (2 ^ 32) value
+      k ← whole_number_at fields.AfterK (2 ^ 32) value
+      Ok (Some (record { 0 = j }, record { 0 = k }))
+
 -- ---- commands
 
 -- All fields have their forms before the digits are read, and all digits are read before the hashes are counted.
@@ -199,6 +214,22 @@ relations_at value = do
   file ← whole_number_at fields.File (2 ^ 32) value
   Ok (commands.Relations (record { 0 = file }))
 
+-- The distance is tested before the number of pairs.
+unfoldable pub pairs_at : Data → Result Command Refusal
+pairs_at value = do
+  after ← place_at value
+  number ← whole_number_at fields.N (2 ^ 64) value
+  farthest ← whole_number_at fields.AtMost (2 ^ 64) value
+  at_most ← distance_of farthest
+  n ← batch_of number
+  Ok (commands.Pairs (record { after = after; n = n; at_most = at_most }))
+
+unfoldable pub pair_count_at : Data → Result Command Refusal
+pair_count_at value = do
+  farthest ← whole_number_at fields.AtMost (2 ^ 64) value
+  at_most ← distance_of farthest
+  Ok (commands.PairCount at_most)
+
 unfoldable pub search_distance_at : Data → Result Command Refusal
 search_distance_at value = do
   number ← whole_number_at fields.Distance (2 ^ 64) value
@@ -227,6 +258,8 @@ name_of text =
     else if bytes_eq text (codes "decide") then Some names.Decide
     else if bytes_eq text (codes "undo") then Some names.Undo
     else if bytes_eq text (codes "relations") then Some names.Relations
+    else if bytes_eq text (codes "pairs") then Some names.Pairs
+    else if bytes_eq text (codes "pair_count") then Some names.PairCount
     else if bytes_eq text (codes "search_distance") then Some names.SearchDistance
     else if bytes_eq text (codes "search_job") then Some names.SearchJob
     else if bytes_eq text (codes "search_files") then Some names.SearchFiles
@@ -244,6 +277,8 @@ command_at names.Import value = import_at value
 command_at names.Decide value = decide_at value
 command_at names.Undo value = undo_at value
 command_at names.Relations value = relations_at value
+command_at names.Pairs value = pairs_at value
+command_at names.PairCount value = pair_count_at value
 command_at names.SearchDistance value = search_distance_at value
 command_at names.SearchJob value = search_job_at value
 command_at names.SearchFiles value = search_files_at value

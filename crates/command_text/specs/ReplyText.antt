@@ -37,26 +37,32 @@ queues_text queues = codes "{\"search\":" ++ (decimal queues.search ++ (codes ",
 unfoldable pub done_text : List ℕ
 done_text = codes "{\"done\":true}"
 
+-- ---- lists
+
+-- an item behind another one
+abbrev pub next_text : {A : Type 0} → (A → List ℕ) → A → List ℕ
+next_text text item = codes "," ++ text item
+
+-- the items behind the first
+unfoldable pub following_text : {A : Type 0} → (A → List ℕ) → List A → List ℕ
+following_text text items = flat_map (next_text text) items
+
+-- the texts of the items, with a comma between each two
+unfoldable pub joined_text : {A : Type 0} → (A → List ℕ) → List A → List ℕ
+joined_text text [] = []
+joined_text text (item ∷ items) = text item ++ following_text text items
+
 -- ---- relations
 
--- a file behind another one
-abbrev pub next_text : FileNo → List ℕ
-next_text file = codes "," ++ decimal file.0
-
-unfoldable pub following_text : List FileNo → List ℕ
-following_text files = flat_map next_text files
-
--- files with a comma between each two
-unfoldable pub files_text : List FileNo → List ℕ
-files_text [] = []
-files_text (file ∷ files) = decimal file.0 ++ following_text files
+abbrev pub file_text : FileNo → List ℕ
+file_text file = decimal file.0
 
 -- a list and its name
 unfoldable pub label_text : List ℕ → List ℕ
 label_text name = codes ",\"" ++ (name ++ codes "\":[")
 
 unfoldable pub closed_text : List FileNo → List ℕ
-closed_text files = files_text files ++ codes "]"
+closed_text files = joined_text file_text files ++ codes "]"
 
 unfoldable pub list_text : List ℕ → List FileNo → List ℕ
 list_text name files = label_text name ++ closed_text files
@@ -73,6 +79,25 @@ others_text relations = lists_text relations ++ codes "}"
 unfoldable pub relations_text : FileRelations → List ℕ
 relations_text relations = king_text relations.king ++ others_text relations
 
+-- ---- pairs
+
+-- two files and their distance
+abbrev pub Pair : Type 0
+Pair = FileNo × FileNo × ℕ
+
+abbrev pub pair_text : Pair → List ℕ
+pair_text pair = codes "[" ++ (decimal pair.0.0 ++ (codes "," ++ (decimal pair.1.0 ++ (codes "," ++ (decimal pair.2 ++ codes "]")))))
+
+-- the pairs, and what closes their list
+unfoldable pub closed_pairs_text : List Pair → List ℕ
+closed_pairs_text pairs = joined_text pair_text pairs ++ codes "]}"
+
+unfoldable pub pairs_text : List Pair → List ℕ
+pairs_text pairs = codes "{\"pairs\":[" ++ closed_pairs_text pairs
+
+unfoldable pub pair_count_text : ℕ → List ℕ
+pair_count_text count = codes "{\"count\":" ++ (decimal count ++ codes "}")
+
 -- ---- refusals
 
 abbrev pub refusal_name : Refusal → List ℕ
@@ -88,6 +113,7 @@ refusal_name refusals.SameFile = codes "same_file"
 refusal_name refusals.UnknownDecision = codes "unknown_decision"
 refusal_name refusals.AlreadyUndone = codes "already_undone"
 refusal_name refusals.FullFiles = codes "full_files"
+refusal_name refusals.FullNear = codes "full_near"
 refusal_name refusals.FullDecisions = codes "full_decisions"
 refusal_name refusals.NoMemory = codes "no_memory"
 refusal_name refusals.JournalFull = codes "journal_full"
@@ -108,6 +134,8 @@ reply_text (replies.Imported found) = imported_text found
 reply_text (replies.Decided decision) = decided_text decision
 reply_text (replies.Undone decision) = undone_text decision
 reply_text (replies.Relations relations) = relations_text relations
+reply_text (replies.Pairs pairs) = pairs_text pairs
+reply_text (replies.PairCount count) = pair_count_text count
 reply_text (replies.Distance distance) = distance_text distance
 reply_text (replies.Searched counts) = searched_text counts
 reply_text (replies.Queues queues) = queues_text queues

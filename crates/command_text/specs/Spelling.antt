@@ -1,5 +1,5 @@
 -- What it is for a line to spell a command, or to have a fault, in plain facts about the line.
-use Rattle.std.specs.Prelude.{◌≡◌, ℕ, ◌+◌, ◌*◌, ◌^◌, ◌<◌, ◌≤◌, ◌⊎◌, List, [], ◌∷◌, codes, length, map, fold, unwrap_or, Some, None, Ok, All, Any}
+use Rattle.std.specs.Prelude.{◌≡◌, ℕ, ◌+◌, ◌*◌, ◌^◌, ◌<◌, ◌≤◌, ◌⊎◌, List, [], ◌∷◌, codes, length, map, fold, unwrap_or, Option, Some, None, Ok, All, Any}
 use Rattle.std.specs.List.{AllPass, AllZip}
 use Rattle.std.specs.Str.{IsUtf8}
 use Rattle.hex.specs.Hex.{hex_digit_value, is_hex_digit, decode_of}
@@ -16,6 +16,7 @@ use Rattle.media_types.specs.declared.limits.TheConstants.{MAX_DISTANCE, MAX_HAS
 use Rattle.media_types.specs.declared.new_file.NewFile.{NewFile}
 use Rattle.media_types.specs.declared.numbers.DecisionNo.{DecisionNo}
 use Rattle.media_types.specs.declared.numbers.FileNo.{FileNo}
+use Rattle.media_types.specs.declared.pair_page.PairPage.{PairPage}
 use Rattle.media_types.specs.declared.searching.Searching.{Searching}
 use Rattle.media_base.specs.declared.refusal.FieldName.{FieldName}
 use Rattle.media_base.specs.declared.refusal.FieldName.TheVariants as fields
@@ -75,6 +76,15 @@ pub record HasFiles (value : Data) (name : FieldName) (files : List FileNo) : Ty
   pub is : HasField value name (array (items_of (map (λ file. number (unsigned file.0)) files)))
   pub fit : All (λ file. file.0 < 2 ^ 32) files
 
+-- Neither of the two fields of a place is there.
+abbrev pub HasNoPlace : Data → Type 0
+HasNoPlace value = HasNoField value fields.AfterJ × HasNoField value fields.AfterK
+
+-- The fields `after_j` and `after_k` are the two numbers of this place; where there is none, both are missing.
+abbrev pub HasPlace : Data → Option (FileNo × FileNo) → Type 0
+HasPlace value None = HasNoPlace value
+HasPlace value (Some place) = HasNumber value fields.AfterJ (2 ^ 32) place.0.0 × HasNumber value fields.AfterK (2 ^ 32) place.1.0
+
 -- ---- hexadecimal digits
 
 -- The text is so many hexadecimal digits, of either case.
@@ -117,6 +127,8 @@ name_text names.Import = codes "import"
 name_text names.Decide = codes "decide"
 name_text names.Undo = codes "undo"
 name_text names.Relations = codes "relations"
+name_text names.Pairs = codes "pairs"
+name_text names.PairCount = codes "pair_count"
 name_text names.SearchDistance = codes "search_distance"
 name_text names.SearchJob = codes "search_job"
 name_text names.SearchFiles = codes "search_files"
@@ -164,6 +176,19 @@ pub record AsksRelations (value : Data) (asked : FileNo) : Type 0 where
   pub asks : IsNamed value names.Relations
   pub file : HasNumber value fields.File (2 ^ 32) asked.0
 
+pub record AsksPairs (value : Data) (asked : PairPage) : Type 0 where
+  pub asks : IsNamed value names.Pairs
+  pub after : HasPlace value asked.after
+  pub n : HasNumber value fields.N (2 ^ 64) asked.n
+  pub at_most : HasNumber value fields.AtMost (2 ^ 64) asked.at_most
+  pub small : asked.at_most ≤ MAX_DISTANCE
+  pub batch : IsBatch asked.n
+
+pub record AsksPairCount (value : Data) (asked : ℕ) : Type 0 where
+  pub asks : IsNamed value names.PairCount
+  pub at_most : HasNumber value fields.AtMost (2 ^ 64) asked
+  pub small : asked ≤ MAX_DISTANCE
+
 pub record AsksSearchDistance (value : Data) (asked : ℕ) : Type 0 where
   pub asks : IsNamed value names.SearchDistance
   pub distance : HasNumber value fields.Distance (2 ^ 64) asked
@@ -183,7 +208,7 @@ pub record AsksSearchFiles (value : Data) (asked : Searching) : Type 0 where
 
 -- ---- what is wrong with a value
 
--- The field has the form that its command wants.
+-- The field has the form that its command wants. The two fields of a place are both there or both missing.
 abbrev pub HasForm : Data → FieldName → Type 0
 HasForm value fields.Do = (name : CommandName) × IsNamed value name
 HasForm value fields.Sha256 = (text : List ℕ) × HasText value fields.Sha256 text
@@ -199,6 +224,9 @@ HasForm value fields.Decision = (n : ℕ) × HasNumber value fields.Decision (2 
 HasForm value fields.Files = (files : List FileNo) × HasFiles value fields.Files files
 HasForm value fields.Distance = (n : ℕ) × HasNumber value fields.Distance (2 ^ 64) n
 HasForm value fields.N = (n : ℕ) × HasNumber value fields.N (2 ^ 64) n
+HasForm value fields.AfterJ = HasNoPlace value ⊎ ((n : ℕ) × HasNumber value fields.AfterJ (2 ^ 32) n)
+HasForm value fields.AfterK = HasNoPlace value ⊎ ((n : ℕ) × HasNumber value fields.AfterK (2 ^ 32) n)
+HasForm value fields.AtMost = (n : ℕ) × HasNumber value fields.AtMost (2 ^ 64) n
 
 -- the fields of each command, in their order
 abbrev pub fields_of : CommandName → List FieldName
@@ -206,6 +234,8 @@ fields_of names.Import = fields.Sha256 ∷ fields.Hashes ∷ fields.Size ∷ fie
 fields_of names.Decide = fields.Code ∷ fields.A ∷ fields.B ∷ []
 fields_of names.Undo = fields.Decision ∷ []
 fields_of names.Relations = fields.File ∷ []
+fields_of names.Pairs = fields.AfterJ ∷ fields.AfterK ∷ fields.N ∷ fields.AtMost ∷ []
+fields_of names.PairCount = fields.AtMost ∷ []
 fields_of names.SearchDistance = fields.Distance ∷ []
 fields_of names.SearchJob = fields.N ∷ []
 fields_of names.SearchFiles = fields.Files ∷ fields.Distance ∷ []
@@ -247,19 +277,30 @@ pub record HasTooManyHashes (value : Data) : Type 0 where
   pub hashes : All (IsDigits 16) texts
   pub many : MAX_HASHES < length texts
 
--- The field `distance` is a whole number over the greatest distance.
-pub record IsFarther (value : Data) : Type 0 where
+-- The field is a whole number over the greatest distance.
+pub record IsFarther (value : Data) (name : FieldName) : Type 0 where
   pub n : ℕ
-  pub is : HasNumber value fields.Distance (2 ^ 64) n
+  pub is : HasNumber value name (2 ^ 64) n
   pub far : MAX_DISTANCE < n
+
+-- It asks for pairs, the two numbers are these, and the place has its form.
+pub record HasPairsForms (value : Data) (number farthest : ℕ) : Type 0 where
+  pub asks : IsNamed value names.Pairs
+  pub place : Option (FileNo × FileNo)
+  pub after : HasPlace value place
+  pub n : HasNumber value fields.N (2 ^ 64) number
+  pub at_most : HasNumber value fields.AtMost (2 ^ 64) farthest
 
 -- Each field has its form, and the distance is too great.
 pub data HasBadDistance (value : Data) : Type 0 where
-  far_search_distance : IsNamed value names.SearchDistance → IsFarther value → HasBadDistance value
-  far_search_files : IsNamed value names.SearchFiles → HasForm value fields.Files → IsFarther value → HasBadDistance value
+  far_pairs : (number farthest : ℕ) → HasPairsForms value number farthest → MAX_DISTANCE < farthest → HasBadDistance value
+  far_pair_count : IsNamed value names.PairCount → IsFarther value fields.AtMost → HasBadDistance value
+  far_search_distance : IsNamed value names.SearchDistance → IsFarther value fields.Distance → HasBadDistance value
+  far_search_files : IsNamed value names.SearchFiles → HasForm value fields.Files → IsFarther value fields.Distance → HasBadDistance value
 
 -- Nothing else is wrong, and a number of things to do at once is 0 or too great.
 pub data HasBadNumber (value : Data) : Type 0 where
+  wrong_pairs : (number farthest : ℕ) → HasPairsForms value number farthest → farthest ≤ MAX_DISTANCE → ¬ (IsBatch number) → HasBadNumber value
   wrong_search_job : IsNamed value names.SearchJob → (n : ℕ) → HasNumber value fields.N (2 ^ 64) n → ¬ (IsBatch n) → HasBadNumber value
   wrong_search_files : IsNamed value names.SearchFiles → (files : List FileNo) → HasFiles value fields.Files files → ¬ (IsBatch (length files))
       → (distance : ℕ) → HasNumber value fields.Distance (2 ^ 64) distance → distance ≤ MAX_DISTANCE → HasBadNumber value
@@ -277,6 +318,12 @@ SpellsUndo line decision = Spells line (λ value. AsksUndo value decision)
 
 abbrev pub SpellsRelations : List ℕ → FileNo → Type 0
 SpellsRelations line file = Spells line (λ value. AsksRelations value file)
+
+abbrev pub SpellsPairs : List ℕ → PairPage → Type 0
+SpellsPairs line page = Spells line (λ value. AsksPairs value page)
+
+abbrev pub SpellsPairCount : List ℕ → ℕ → Type 0
+SpellsPairCount line distance = Spells line (λ value. AsksPairCount value distance)
 
 abbrev pub SpellsSearchDistance : List ℕ → ℕ → Type 0
 SpellsSearchDistance line distance = Spells line (λ value. AsksSearchDistance value distance)

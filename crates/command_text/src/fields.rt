@@ -1,9 +1,10 @@
 //! The fields of a request.
 
 ghost use Rattle.std.specs.Prelude.{◌≡◌, ◌^◌, map, option_map};
+ghost use Rattle.std.specs.Option.{is_none};
 ghost use Rattle.serde_json.specs.Find.{as_array};
 ghost use Rattle.serde_json.specs.View.{view, items_view};
-ghost use Rattle.command_text.specs.Reading.{Gives, GivesAs, text_of, number_of, list_of, texts_of, files_of, file_in, formed, whole_number_at, hash_texts_at, files_at};
+ghost use Rattle.command_text.specs.Reading.{Gives, GivesAs, field_of, text_of, number_of, list_of, texts_of, files_of, file_in, formed, whole_number_at, hash_texts_at, files_at};
 ghost use Rattle.media_base.specs.declared.refusal.FieldName.TheVariants as fields;
 
 use media_base::{FieldName, FileList, FileNo, Listed, Refusal};
@@ -20,6 +21,12 @@ pub fn number(request: &Value, name: FieldName) -> Option<u64>
     ensures { result ≡ number_of name (view request.now) }
 {
     request.get(name.text()).and_then(Value::as_u64)
+}
+
+pub fn lacks(request: &Value, name: FieldName) -> bool
+    ensures { result ≡ is_none (field_of name (view request.now)) }
+{
+    request.get(name.text()).is_none()
 }
 
 #[tactic(auto, unfolding(crate::specs::Reading::whole_number_at))]

@@ -5,6 +5,7 @@ ghost use Rattle.media_types.specs.declared.decision.Decision.{Decision};
 ghost use Rattle.media_types.specs.declared.new_file.NewFile.{NewFile};
 ghost use Rattle.media_types.specs.declared.numbers.DecisionNo.{DecisionNo};
 ghost use Rattle.media_types.specs.declared.numbers.FileNo.{FileNo};
+ghost use Rattle.media_types.specs.declared.pair_page.PairPage.{PairPage};
 ghost use Rattle.media_types.specs.declared.searching.Searching.{Searching};
 ghost use Rattle.media_base.specs.declared.command.Command.TheVariants as commands;
 ghost use Rattle.media_base.specs.declared.refusal.FieldName.{FieldName};
@@ -12,7 +13,7 @@ ghost use Rattle.media_base.specs.declared.refusal.Refusal.{Refusal};
 ghost use Rattle.media_base.specs.declared.refusal.Refusal.TheVariants as refusals;
 ghost use Rattle.command_text.specs.Reading.{line_command};
 ghost use Rattle.command_text.specs.declared.request.TheConstants.{MAX_LINE};
-ghost use Rattle.command_text.specs.Spelling.{IsNoJson, IsOfReading, SpellsBadDistance, SpellsBadHash, SpellsBadNumber, SpellsDecide, SpellsFault, SpellsImport, SpellsQueues, SpellsRebalanceJob, SpellsRelations, SpellsSearchDistance, SpellsSearchFiles, SpellsSearchJob, SpellsTooManyHashes, SpellsUndo};
+ghost use Rattle.command_text.specs.Spelling.{IsNoJson, IsOfReading, SpellsBadDistance, SpellsBadHash, SpellsBadNumber, SpellsDecide, SpellsFault, SpellsImport, SpellsPairCount, SpellsPairs, SpellsQueues, SpellsRebalanceJob, SpellsRelations, SpellsSearchDistance, SpellsSearchFiles, SpellsSearchJob, SpellsTooManyHashes, SpellsUndo};
 
 /// A line is read as a command exactly where it spells the command.
 pub fn spelling_laws()
@@ -24,6 +25,10 @@ pub fn spelling_laws()
         → (line_command line ≡ Ok (commands.Undo decision)) ↔ SpellsUndo line decision }
     ensures relations { (line : List ℕ) (file : FileNo)
         → (line_command line ≡ Ok (commands.Relations file)) ↔ SpellsRelations line file }
+    ensures pairs { (line : List ℕ) (page : PairPage)
+        → (line_command line ≡ Ok (commands.Pairs page)) ↔ SpellsPairs line page }
+    ensures pair_count { (line : List ℕ) (distance : ℕ)
+        → (line_command line ≡ Ok (commands.PairCount distance)) ↔ SpellsPairCount line distance }
     ensures search_distance { (line : List ℕ) (distance : ℕ)
         → (line_command line ≡ Ok (commands.SearchDistance distance)) ↔ SpellsSearchDistance line distance }
     ensures search_job { (line : List ℕ) (n : ℕ)

@@ -11,6 +11,7 @@ mod fields;
 mod import;
 mod laws;
 mod named_list;
+mod pairs;
 mod pieces;
 mod reply_size;
 mod request;

@@ -3,12 +3,15 @@
 ghost use Rattle.std.specs.Prelude.{◌≡◌, ◌++◌, ◌+◌, ◌-◌, ◌^◌, min, length, decimal};
 ghost use Rattle.std.specs.List.{flat_map};
 ghost use Rattle.media_base.specs.Names.{import_number};
-ghost use Rattle.command_text.specs.ReplyText.{imported_text, decided_text, undone_text, distance_text, searched_text, queues_text, done_text, king_text, label_text, next_text, refusal_name, blamed_text, refused_text};
+ghost use Rattle.command_text.specs.ReplyText.{imported_text, decided_text, undone_text, distance_text, searched_text, queues_text, done_text, king_text, label_text, next_text, file_text, pair_text, pair_count_text, refusal_name, blamed_text, refused_text};
 
 use itoa::Buffer;
 use media_base::{
     DecisionNo, FileNo, ImportStatus, Imported, QueueLengths, Refusal, SearchCounts, SearchDistance,
 };
+
+/// Two files and their distance.
+pub type Pair = (FileNo, FileNo, u8);
 
 #[tactic(auto, unfolding(crate::specs::ReplyText::imported_text))]
 pub fn imported_pieces<'a>(found: &Imported, digits: &'a mut Buffer) -> [&'a [u8]; 5]
@@ -114,7 +117,7 @@ pub fn king_pieces(king: FileNo, digits: &mut Buffer) -> [&[u8]; 2]
 
 /// A file behind another one.
 pub fn following_pieces(file: FileNo, digits: &mut Buffer) -> [&[u8]; 2]
-    ensures { flat_map (λ piece. piece.now) result ≡ next_text file }
+    ensures { flat_map (λ piece. piece.now) result ≡ next_text file_text file }
 {
     [b",", digits.format(file.0).as_bytes()]
 }
@@ -125,6 +128,33 @@ pub fn label_pieces(name: &str) -> [&[u8]; 3]
     ensures { flat_map (λ piece. piece.now) result ≡ label_text name.now }
 {
     [b",\"", name.as_bytes(), b"\":["]
+}
+
+pub fn pair_pieces<'a>(
+    pair: Pair,
+    j_digits: &'a mut Buffer,
+    k_digits: &'a mut Buffer,
+    distance_digits: &'a mut Buffer,
+) -> [&'a [u8]; 7]
+    ensures { flat_map (λ piece. piece.now) result ≡ pair_text pair }
+{
+    let (j, k, distance) = pair;
+    [
+        b"[",
+        j_digits.format(j.0).as_bytes(),
+        b",",
+        k_digits.format(k.0).as_bytes(),
+        b",",
+        distance_digits.format(distance).as_bytes(),
+        b"]",
+    ]
+}
+
+#[tactic(auto, unfolding(crate::specs::ReplyText::pair_count_text))]
+pub fn pair_count_pieces(count: u64, digits: &mut Buffer) -> [&[u8]; 3]
+    ensures { flat_map (λ piece. piece.now) result ≡ pair_count_text count }
+{
+    [b"{\"count\":", digits.format(count).as_bytes(), b"}"]
 }
 
 #[tactic(auto, unfolding(crate::specs::ReplyText::refused_text))]
@@ -157,6 +187,7 @@ fn name_of(refusal: Refusal) -> &'static str
         Refusal::UnknownDecision => "unknown_decision",
         Refusal::AlreadyUndone => "already_undone",
         Refusal::FullFiles => "full_files",
+        Refusal::FullNear => "full_near",
         Refusal::FullDecisions => "full_decisions",
         Refusal::NoMemory => "no_memory",
         Refusal::JournalFull => "journal_full",

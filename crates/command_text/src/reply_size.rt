@@ -1,11 +1,12 @@
 ghost use Rattle.std.specs.Prelude.{◌≡◌, ◌-◌, ◌^◌, min, length};
 ghost use Rattle.std.specs.List.{flat_map};
-ghost use Rattle.command_text.specs.ReplyText.{following_text, files_text, list_text, others_text, relations_text, reply_text};
+ghost use Rattle.command_text.specs.ReplyText.{following_text, joined_text, next_text, file_text, list_text, others_text, relations_text, pair_text, pairs_text, reply_text};
 
 use crate::named_list::{NamedList, named_lists};
 use crate::pieces::{
-    decided_pieces, distance_pieces, done_pieces, following_pieces, imported_pieces, king_pieces,
-    label_pieces, pieces_len, queues_pieces, refused_pieces, searched_pieces, undone_pieces,
+    Pair, decided_pieces, distance_pieces, done_pieces, following_pieces, imported_pieces,
+    king_pieces, label_pieces, pair_count_pieces, pair_pieces, pieces_len, queues_pieces,
+    refused_pieces, searched_pieces, undone_pieces,
 };
 use itoa::Buffer;
 use media_base::{FileNo, FileRelations, Reply};
@@ -22,6 +23,8 @@ pub fn reply_len(reply: &Reply) -> u64
         Reply::Decided(decision) => pieces_len(&decided_pieces(*decision, &mut digits)),
         Reply::Undone(decision) => pieces_len(&undone_pieces(*decision, &mut digits)),
         Reply::Relations(relations) => relations_len(relations),
+        Reply::Pairs(pairs) => pairs_len(pairs.as_slice()),
+        Reply::PairCount(count) => pieces_len(&pair_count_pieces(*count, &mut digits)),
         Reply::Distance(distance) => pieces_len(&distance_pieces(*distance, &mut digits)),
         Reply::Searched(counts) => {
             pieces_len(&searched_pieces(*counts, &mut digits, &mut second))
@@ -67,7 +70,7 @@ fn list_len(name: &str, files: &[FileNo]) -> u64
 }
 
 fn files_len(files: &[FileNo]) -> u64
-    ensures { result ≡ min (length (files_text files.now)) (2 ^ 64 - 1) }
+    ensures { result ≡ min (length (joined_text file_text files.now)) (2 ^ 64 - 1) }
 {
     let [first, others @ ..] = files else {
         return 0;
@@ -79,7 +82,7 @@ fn files_len(files: &[FileNo]) -> u64
 
 #[tactic(auto, unfolding(crate::specs::ReplyText::following_text))]
 fn following_len(files: &[FileNo]) -> u64
-    ensures { result ≡ min (length (following_text files.now)) (2 ^ 64 - 1) }
+    ensures { result ≡ min (length (following_text file_text files.now)) (2 ^ 64 - 1) }
 {
     let mut digits = Buffer::new();
     let mut len = 0u64;
@@ -87,4 +90,49 @@ fn following_len(files: &[FileNo]) -> u64
         len = len.saturating_add(pieces_len(&following_pieces(*file, &mut digits)));
     }
     len
+}
+
+#[tactic(auto, unfolding(crate::specs::ReplyText::pairs_text, crate::specs::ReplyText::closed_pairs_text))]
+fn pairs_len(pairs: &[Pair]) -> u64
+    ensures { result ≡ min (length (pairs_text pairs.now)) (2 ^ 64 - 1) }
+{
+    let opened = b"{\"pairs\":[".len() as u64;
+    opened
+        .saturating_add(joined_pairs_len(pairs))
+        .saturating_add(2)
+}
+
+fn joined_pairs_len(pairs: &[Pair]) -> u64
+    ensures { result ≡ min (length (joined_text pair_text pairs.now)) (2 ^ 64 - 1) }
+{
+    let [first, others @ ..] = pairs else {
+        return 0;
+    };
+    pair_len(*first).saturating_add(following_pairs_len(others))
+}
+
+#[tactic(auto, unfolding(crate::specs::ReplyText::following_text))]
+fn following_pairs_len(pairs: &[Pair]) -> u64
+    ensures { result ≡ min (length (following_text pair_text pairs.now)) (2 ^ 64 - 1) }
+{
+    let mut len = 0u64;
+    for pair in pairs {
+        len = len.saturating_add(next_pair_len(*pair));
+    }
+    len
+}
+
+fn next_pair_len(pair: Pair) -> u64
+    ensures { result ≡ min (length (next_text pair_text pair)) (2 ^ 64 - 1) }
+{
+    pair_len(pair).saturating_add(1)
+}
+
+fn pair_len(pair: Pair) -> u64
+    ensures { result ≡ min (length (pair_text pair)) (2 ^ 64 - 1) }
+{
+    let mut j = Buffer::new();
+    let mut k = Buffer::new();
+    let mut distance = Buffer::new();
+    pieces_len(&pair_pieces(pair, &mut j, &mut k, &mut distance))
 }

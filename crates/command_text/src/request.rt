@@ -6,6 +6,7 @@ use crate::command_name::CommandName;
 use crate::decisions::{decide_of, relations_of, undo_of};
 use crate::fields::text;
 use crate::import::import_of;
+use crate::pairs::{pair_count_of, pairs_of};
 use crate::searches::{search_distance_of, search_files_of, search_job_of};
 use media_base::{Command, FieldName, Refusal};
 use serde_json::Value;
@@ -22,9 +23,10 @@ pub const MAX_LINE: usize = 65_536;
 ///   levels.
 /// - `NotARequest`: the field is the first, in the order `do` and then the command's own, that is
 ///   missing or has another form; `do` too where the value is no object or no command has the name.
+///   `hashes` may be missing, and so may `after_j` and `after_k`, but not one of the two alone.
 /// - `BadHash`: the `sha256` of an import isn't 64 hexadecimal digits, or one of its `hashes` isn't 16.
 /// - `TooManyHashes`: an import has more than `MAX_HASHES` of them.
-/// - `BadDistance`: a `distance` is over `MAX_DISTANCE`.
+/// - `BadDistance`: a `distance` or `at_most` is over `MAX_DISTANCE`.
 /// - `BadNumber`: an `n` is 0 or over `MAX_BATCH`, or `files` are none or more than so many.
 ///
 /// `NoMemory` may come at any line that is neither empty nor too long.
@@ -57,6 +59,8 @@ fn command_of(alloc: Global, request: &Value) -> Result<Command, Refusal>
         CommandName::Decide => decide_of(request),
         CommandName::Undo => undo_of(request),
         CommandName::Relations => relations_of(request),
+        CommandName::Pairs => pairs_of(request),
+        CommandName::PairCount => pair_count_of(request),
         CommandName::SearchDistance => search_distance_of(request),
         CommandName::SearchJob => search_job_of(request),
         CommandName::SearchFiles => search_files_of(alloc, request),

@@ -42,14 +42,14 @@ pub fn search_files_of(alloc: Global, request: &Value) -> Result<Command, Refusa
 }
 
 #[tactic(auto, unfolding(crate::specs::Reading::distance_of))]
-fn distance_of(number: u64) -> Result<SearchDistance, Refusal>
+pub fn distance_of(number: u64) -> Result<SearchDistance, Refusal>
     ensures { result ≡ distance_of number }
 {
     SearchDistance::new(number).ok_or(Refusal::BadDistance)
 }
 
 #[tactic(auto, unfolding(crate::specs::Reading::batch_of))]
-fn batch_of(number: u64) -> Result<BatchSize, Refusal>
+pub fn batch_of(number: u64) -> Result<BatchSize, Refusal>
     ensures { result ≡ batch_of number }
 {
     BatchSize::new(number).ok_or(Refusal::BadNumber)

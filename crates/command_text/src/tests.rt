@@ -1,5 +1,6 @@
 mod decisions;
 mod imports;
+mod pairs;
 mod replies;
 mod searches;
 

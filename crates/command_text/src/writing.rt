@@ -2,12 +2,13 @@ ghost use Rattle.std.specs.Prelude.{◌≡◌, ◌++◌, codes};
 ghost use Rattle.std.specs.List.{flat_map};
 ghost use Rattle.media_types.specs.Cause.{HasCause, failed};
 ghost use Rattle.media_base.specs.Transfer.{Sends, Gathers};
-ghost use Rattle.command_text.specs.ReplyText.{following_text, files_text, closed_text, list_text, others_text, relations_text, reply_text, reply_line};
+ghost use Rattle.command_text.specs.ReplyText.{following_text, joined_text, next_text, file_text, closed_text, list_text, others_text, relations_text, pair_text, closed_pairs_text, pairs_text, reply_text, reply_line};
 
 use crate::named_list::{NamedList, named_lists};
 use crate::pieces::{
-    decided_pieces, distance_pieces, done_pieces, following_pieces, imported_pieces, king_pieces,
-    label_pieces, queues_pieces, refused_pieces, searched_pieces, undone_pieces,
+    Pair, decided_pieces, distance_pieces, done_pieces, following_pieces, imported_pieces,
+    king_pieces, label_pieces, pair_count_pieces, pair_pieces, queues_pieces, refused_pieces,
+    searched_pieces, undone_pieces,
 };
 use itoa::Buffer;
 use media_base::{Failed, FileNo, FileRelations, Gather, Reply, Sink};
@@ -61,6 +62,8 @@ fn put_reply<W: Sink>(reply: &Reply, gather: &mut Gather, sink: &mut W) -> Resul
         Reply::Decided(decision) => gather.put_all(&decided_pieces(*decision, &mut digits), sink),
         Reply::Undone(decision) => gather.put_all(&undone_pieces(*decision, &mut digits), sink),
         Reply::Relations(relations) => put_relations(relations, gather, sink),
+        Reply::Pairs(pairs) => put_pairs(pairs.as_slice(), gather, sink),
+        Reply::PairCount(count) => gather.put_all(&pair_count_pieces(*count, &mut digits), sink),
         Reply::Distance(distance) => gather.put_all(&distance_pieces(*distance, &mut digits), sink),
         Reply::Searched(counts) => {
             gather.put_all(&searched_pieces(*counts, &mut digits, &mut second), sink)
@@ -153,11 +156,11 @@ fn put_closed<W: Sink>(files: &[FileNo], gather: &mut Gather, sink: &mut W) -> R
     }
 }
 
-#[tactic(auto, unfolding(crate::specs::ReplyText::files_text))]
+#[tactic(auto, unfolding(crate::specs::ReplyText::joined_text))]
 fn put_files<W: Sink>(files: &[FileNo], gather: &mut Gather, sink: &mut W) -> Result<(), Failed>
     ensures cause { HasCause (W.faults sink.old) (W.faults sink.new) failed result }
     ensures gathers { Gathers (W.taken sink.old) gather.old (W.taken sink.new) gather.new
-        (files_text files.now) result }
+        (joined_text file_text files.now) result }
 {
     let [first, others @ ..] = files else {
         return Ok(());
@@ -173,7 +176,7 @@ fn put_files<W: Sink>(files: &[FileNo], gather: &mut Gather, sink: &mut W) -> Re
 fn put_following<W: Sink>(files: &[FileNo], gather: &mut Gather, sink: &mut W) -> Result<(), Failed>
     ensures cause { HasCause (W.faults sink.old) (W.faults sink.new) failed result }
     ensures gathers { Gathers (W.taken sink.old) gather.old (W.taken sink.new) gather.new
-        (following_text files.now) result }
+        (following_text file_text files.now) result }
 {
     let mut digits = Buffer::new();
     for file in files {
@@ -183,4 +186,92 @@ fn put_following<W: Sink>(files: &[FileNo], gather: &mut Gather, sink: &mut W) -
         }
     }
     Ok(())
+}
+
+#[tactic(auto, unfolding(crate::specs::ReplyText::pairs_text))]
+fn put_pairs<W: Sink>(pairs: &[Pair], gather: &mut Gather, sink: &mut W) -> Result<(), Failed>
+    ensures cause { HasCause (W.faults sink.old) (W.faults sink.new) failed result }
+    ensures gathers { Gathers (W.taken sink.old) gather.old (W.taken sink.new) gather.new
+        (pairs_text pairs.now) result }
+{
+    match gather.put(b"{\"pairs\":[", sink) {
+        Ok(()) => put_closed_pairs(pairs, gather, sink),
+        Err(failed) => Err(failed),
+    }
+}
+
+#[tactic(auto, unfolding(crate::specs::ReplyText::closed_pairs_text))]
+fn put_closed_pairs<W: Sink>(
+    pairs: &[Pair],
+    gather: &mut Gather,
+    sink: &mut W,
+) -> Result<(), Failed>
+    ensures cause { HasCause (W.faults sink.old) (W.faults sink.new) failed result }
+    ensures gathers { Gathers (W.taken sink.old) gather.old (W.taken sink.new) gather.new
+        (closed_pairs_text pairs.now) result }
+{
+    match put_joined_pairs(pairs, gather, sink) {
+        Ok(()) => gather.put(b"]}", sink),
+        Err(failed) => Err(failed),
+    }
+}
+
+#[tactic(auto, unfolding(crate::specs::ReplyText::joined_text))]
+fn put_joined_pairs<W: Sink>(
+    pairs: &[Pair],
+    gather: &mut Gather,
+    sink: &mut W,
+) -> Result<(), Failed>
+    ensures cause { HasCause (W.faults sink.old) (W.faults sink.new) failed result }
+    ensures gathers { Gathers (W.taken sink.old) gather.old (W.taken sink.new) gather.new
+        (joined_text pair_text pairs.now) result }
+{
+    let [first, others @ ..] = pairs else {
+        return Ok(());
+    };
+    match put_pair(*first, gather, sink) {
+        Ok(()) => put_following_pairs(others, gather, sink),
+        Err(failed) => Err(failed),
+    }
+}
+
+#[tactic(auto, unfolding(crate::specs::ReplyText::following_text))]
+fn put_following_pairs<W: Sink>(
+    pairs: &[Pair],
+    gather: &mut Gather,
+    sink: &mut W,
+) -> Result<(), Failed>
+    ensures cause { HasCause (W.faults sink.old) (W.faults sink.new) failed result }
+    ensures gathers { Gathers (W.taken sink.old) gather.old (W.taken sink.new) gather.new
+        (following_text pair_text pairs.now) result }
+{
+    for pair in pairs {
+        match put_next_pair(*pair, gather, sink) {
+            Ok(()) => {}
+            Err(failed) => return Err(failed),
+        }
+    }
+    Ok(())
+}
+
+fn put_next_pair<W: Sink>(pair: Pair, gather: &mut Gather, sink: &mut W) -> Result<(), Failed>
+    ensures cause { HasCause (W.faults sink.old) (W.faults sink.new) failed result }
+    ensures gathers { Gathers (W.taken sink.old) gather.old (W.taken sink.new) gather.new
+        (next_text pair_text pair) result }
+{
+    match gather.put(b",", sink) {
+        Ok(()) => put_pair(pair, gather, sink),
+        Err(failed) => Err(failed),
+    }
+}
+
+fn put_pair<W: Sink>(pair: Pair, gather: &mut Gather, sink: &mut W) -> Result<(), Failed>
+    ensures cause { HasCause (W.faults sink.old) (W.faults sink.new) failed result }
+    ensures gathers { Gathers (W.taken sink.old) gather.old (W.taken sink.new) gather.new
+        (pair_text pair) result }
+{
+    let mut j = Buffer::new();
+    let mut k = Buffer::new();
+    let mut distance = Buffer::new();
+    gather.put_all(&pair_pieces(pair, &mut j, &mut k, &mut distance), sink)
 }

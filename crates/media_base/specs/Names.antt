@@ -23,6 +23,9 @@ field_text fields.Decision = codes "decision"
 field_text fields.Files = codes "files"
 field_text fields.Distance = codes "distance"
 field_text fields.N = codes "n"
+field_text fields.AfterJ = codes "after_j"
+field_text fields.AfterK = codes "after_k"
+field_text fields.AtMost = codes "at_most"
 
 -- the number of an import's status in a reply
 abbrev pub import_number : ImportStatus → ℕ

@@ -1,4 +1,6 @@
-use media_types::{BatchSize, Decision, DecisionNo, FileNo, NewFile, SearchDistance, Searching};
+use media_types::{
+    BatchSize, Decision, DecisionNo, FileNo, NewFile, PairPage, SearchDistance, Searching,
+};
 
 /// Who asks.
 #[derive(Clone, Copy, Debug, PartialEq, Eq, Hash)]
@@ -18,6 +20,10 @@ pub enum Command {
     Undo(DecisionNo),
     /// Tell how a file is related to the others.
     Relations(FileNo),
+    /// List potential pairs.
+    Pairs(PairPage),
+    /// Count the potential pairs within this distance.
+    PairCount(SearchDistance),
     /// Search within this distance from now on.
     SearchDistance(SearchDistance),
     /// Search the next files of the search queue, so many.

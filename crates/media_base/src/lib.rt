@@ -26,8 +26,8 @@ pub use media_types::{
     BatchSize, ByteList, CallList, Code, Decision, DecisionList, DecisionNo, DeskNo,
     FIRST_DISTANCE, Failed, FileBatch, FileHashes, FileList, FileNo, FileRelations, Hash64,
     HashList, HashNo, KeyBytes, KeyNo, Listed, MAX_BATCH, MAX_DECISIONS, MAX_DISTANCE, MAX_FILES,
-    MAX_HASHES, MAX_WORDS, NewFile, NoMemory, SearchDistance, Searching, ServiceNo, Sha, SizeList,
-    Steps, TagNo, distance,
+    MAX_HASHES, MAX_NEAR, MAX_WORDS, NearList, NewFile, NoMemory, PairList, PairPage,
+    SearchDistance, Searching, ServiceNo, Sha, SizeList, Steps, TagNo, distance,
 };
 pub use refusal::{FieldName, Refusal};
 pub use reply::{ImportStatus, Imported, QueueLengths, Reply, SearchCounts};

@@ -1,5 +1,5 @@
 use crate::refusal::Refusal;
-use media_types::{DecisionNo, FileNo, FileRelations, SearchDistance};
+use media_types::{DecisionNo, FileNo, FileRelations, PairList, SearchDistance};
 
 /// What an import found. The numbers that replies give follow the Hydrus Client API's import statuses.
 #[derive(Clone, Copy, Debug, PartialEq, Eq, Hash)]
@@ -44,6 +44,9 @@ pub enum Reply {
     /// The number of the decision that is undone now.
     Undone(DecisionNo),
     Relations(FileRelations),
+    Pairs(PairList),
+    /// How many potential pairs there are.
+    PairCount(u64),
     /// The distance within which files are searched now.
     Distance(SearchDistance),
     Searched(SearchCounts),

@@ -90,6 +90,9 @@ fn names(rt: HostRuntime) {
         (FieldName::Files, "files"),
         (FieldName::Distance, "distance"),
         (FieldName::N, "n"),
+        (FieldName::AfterJ, "after_j"),
+        (FieldName::AfterK, "after_k"),
+        (FieldName::AtMost, "at_most"),
     ];
     for (field, text) in fields {
         assert_eq!(rt; field.text(), text);

@@ -1,7 +1,7 @@
 use crate::{reply_len, write_reply, write_reply_line};
 use media_base::{
     BytesSink, CallList, DecisionNo, FieldName, FileList, FileNo, FileRelations, ImportStatus,
-    Imported, QueueLengths, Refusal, Reply, SearchCounts, SearchDistance,
+    Imported, PairList, QueueLengths, Refusal, Reply, SearchCounts, SearchDistance,
 };
 use std::alloc::Global;
 use std::process::Abort;
@@ -73,6 +73,37 @@ fn searches_are_answered(rt: HostRuntime) -> Result<(), Fail> {
     Ok(())
 }
 
+fn pairs(alloc: Global, rows: &[(FileNo, FileNo, u8)]) -> Result<Reply, Fail> {
+    Ok(Reply::Pairs(PairList::from_rows(rows.to_vec(alloc)?)))
+}
+
+#[test]
+fn pairs_are_answered(rt: HostRuntime) -> Result<(), Fail> {
+    let first = (FileNo(0), FileNo(1), 8);
+    let second = (FileNo(1), FileNo(2), 1);
+    let last = (FileNo(999_998), FileNo(999_999), 16);
+    let cases = [
+        (pairs(rt.alloc(), &[])?, "{\"pairs\":[]}"),
+        (
+            pairs(rt.alloc(), &[first, second])?,
+            "{\"pairs\":[[0,1,8],[1,2,1]]}",
+        ),
+        (
+            pairs(rt.alloc(), &[last])?,
+            "{\"pairs\":[[999998,999999,16]]}",
+        ),
+        (Reply::PairCount(2), "{\"count\":2}"),
+        (
+            Reply::PairCount(u64::MAX),
+            "{\"count\":18446744073709551615}",
+        ),
+    ];
+    for (reply, want) in &cases {
+        assert_text(&rt, rt.alloc(), reply, want)?;
+    }
+    Ok(())
+}
+
 fn files(alloc: Global, numbers: &[FileNo]) -> Result<FileList, Fail> {
     Ok(FileList::from_rows(numbers.to_vec(alloc)?))
 }
@@ -120,6 +151,10 @@ fn refusals_are_written(rt: HostRuntime) -> Result<(), Fail> {
             Refusal::NotARequest(FieldName::N),
             "{\"error\":\"not_a_request\",\"field\":\"n\"}",
         ),
+        (
+            Refusal::NotARequest(FieldName::AfterK),
+            "{\"error\":\"not_a_request\",\"field\":\"after_k\"}",
+        ),
         (Refusal::BadHash, "{\"error\":\"bad_hash\"}"),
         (Refusal::TooManyHashes, "{\"error\":\"too_many_hashes\"}"),
         (Refusal::BadDistance, "{\"error\":\"bad_distance\"}"),
@@ -129,6 +164,7 @@ fn refusals_are_written(rt: HostRuntime) -> Result<(), Fail> {
         (Refusal::UnknownDecision, "{\"error\":\"unknown_decision\"}"),
         (Refusal::AlreadyUndone, "{\"error\":\"already_undone\"}"),
         (Refusal::FullFiles, "{\"error\":\"full_files\"}"),
+        (Refusal::FullNear, "{\"error\":\"full_near\"}"),
         (Refusal::FullDecisions, "{\"error\":\"full_decisions\"}"),
         (Refusal::NoMemory, "{\"error\":\"no_memory\"}"),
         (Refusal::JournalFull, "{\"error\":\"journal_full\"}"),

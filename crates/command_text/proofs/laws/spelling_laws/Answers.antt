@@ -15,6 +15,12 @@ returns-clause-undo c = λ line decision. line_law line (Ok (commands.Undo decis
 pub returns-clause-relations : goal.returns-clause-relations
 returns-clause-relations c = λ line file. line_law line (Ok (commands.Relations file))
 
+pub returns-clause-pairs : goal.returns-clause-pairs
+returns-clause-pairs c = λ line page. line_law line (Ok (commands.Pairs page))
+
+pub returns-clause-pair_count : goal.returns-clause-pair_count
+returns-clause-pair_count c = λ line distance. line_law line (Ok (commands.PairCount distance))
+
 pub returns-clause-search_distance : goal.returns-clause-search_distance
 returns-clause-search_distance c = λ line distance. line_law line (Ok (commands.SearchDistance distance))
 

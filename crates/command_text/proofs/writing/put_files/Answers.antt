@@ -1,7 +1,7 @@
-use Rattle.std.proofs.Common.{ℕ, List, ◌-◌, ◌++◌, length, get_or, take, drop, decimal, subst, ◌∙◌}
+use Rattle.std.proofs.Common.{ℕ, List, ◌-◌, ◌++◌, length, get_or, take, drop, subst, ◌∙◌}
 use Rattle.media_base.specs.Transfer.{Gathers, TookFront}
-use Rattle.command_text.specs.ReplyText.{following_text}
-use Rattle.command_text.proofs.FirstFile.{files_text-first}
+use Rattle.command_text.specs.ReplyText.{file_text, following_text}
+use Rattle.command_text.proofs.FirstItem.{joined-first}
 use Rattle.command_text.proofs.Putting.{gathers_first, front_of_first}
 use Rattle.command_text.proofs.writing.put_files.Goals as goal
 
@@ -11,8 +11,8 @@ returns-in-Ok-clause-gathers g c =
     let files = c.args.files.now in
     let told = c.as_bytes.ensures.value ∙ c.format.ensures.text in
     subst (λ (text : List ℕ). Gathers (taken c.args.sink.now) c.args.gather.now (taken c.put_following.new.sink) c.put_following.new.gather text c.put_following.result)
-    (files_text-first files _ c.in-len1-up.len_at_least)
-    (gathers_first _ _ _ _ _ _ _ (decimal (get_or files 0 (record { 0 = 0 })).0) (following_text (take (length files - 1) (drop 1 files))) _ told c.in-Ok.ensures.gathers c.put_following.ensures.gathers)
+    (joined-first file_text files _ c.in-len1-up.len_at_least)
+    (gathers_first _ _ _ _ _ _ _ (file_text (get_or files 0 (record { 0 = 0 }))) (following_text file_text (take (length files - 1) (drop 1 files))) _ told c.in-Ok.ensures.gathers c.put_following.ensures.gathers)
 
 pub returns-in-Err-clause-gathers : goal.returns-in-Err-clause-gathers
 returns-in-Err-clause-gathers g c =
@@ -20,5 +20,5 @@ returns-in-Err-clause-gathers g c =
     let files = c.args.files.now in
     let told = c.as_bytes.ensures.value ∙ c.format.ensures.text in
     subst (λ (text : List ℕ). TookFront (taken c.args.sink.now) (taken c.put.new.sink) (c.args.gather.now ++ text))
-    (files_text-first files _ c.in-len1-up.len_at_least)
-    (front_of_first _ _ c.args.gather.now _ (decimal (get_or files 0 (record { 0 = 0 })).0) (following_text (take (length files - 1) (drop 1 files))) told c.in-Err.ensures.gathers)
+    (joined-first file_text files _ c.in-len1-up.len_at_least)
+    (front_of_first _ _ c.args.gather.now _ (file_text (get_or files 0 (record { 0 = 0 }))) (following_text file_text (take (length files - 1) (drop 1 files))) told c.in-Err.ensures.gathers)

@@ -1,7 +1,7 @@
 use Rattle.std.proofs.Common.{List, ℕ, ◌++◌, Ok, Err, arith, subst}
 use Rattle.media_types.specs.Cause.{failed}
 use Rattle.media_base.specs.Transfer.{TookFront, Gathered}
-use Rattle.command_text.specs.ReplyText.{next_text, following_text}
+use Rattle.command_text.specs.ReplyText.{next_text, file_text, following_text}
 use Rattle.media_base.specs.GatherLaws.{gathers_item, front_of_items, gathered_items}
 use Rattle.command_text.proofs.writing.put_following.Goals as goal
 
@@ -11,7 +11,7 @@ returns-in-Err-clause-gathers g c =
     let taken = g.W.Sink.taken in
     let held = c.loop-file.gather in
     let front = subst (λ (text : List ℕ). TookFront (taken c.loop-file.sink) (taken c.put_all.new.sink) (held ++ text)) c.following_pieces.ensures c.in-Err.ensures.gathers in
-    c.loop-file.invariant.completes (taken c.put_all.new.sink) c.put_all.new.self (Err failed) (front_of_items next_text (taken c.loop-file.sink) (taken c.put_all.new.sink) held c.args.files.now c.loop-file.file-index _ c.loop-file-test.true front)
+    c.loop-file.invariant.completes (taken c.put_all.new.sink) c.put_all.new.self (Err failed) (front_of_items (next_text file_text) (taken c.loop-file.sink) (taken c.put_all.new.sink) held c.args.files.now c.loop-file.file-index _ c.loop-file-test.true front)
 
 pub loop-file-preserved : goal.loop-file-preserved
 unfolding following_text
@@ -21,11 +21,11 @@ loop-file-preserved g c =
     let one = subst (λ (text : List ℕ). Gathered (taken c.loop-file.sink) held (taken c.put_all.new.sink) c.put_all.new.self text) c.following_pieces.ensures c.in-Ok.ensures.gathers in
     record {
       later = omega (arith, c.loop-file.invariant.later, c.put_all.ensures.cause.later);
-      completes = λ last kept result rest. c.loop-file.invariant.completes last kept result (gathers_item next_text (taken c.loop-file.sink) (taken c.put_all.new.sink) last held c.put_all.new.self kept c.args.files.now c.loop-file.file-index _ result c.loop-file-test.true one rest);
+      completes = λ last kept result rest. c.loop-file.invariant.completes last kept result (gathers_item (next_text file_text) (taken c.loop-file.sink) (taken c.put_all.new.sink) last held c.put_all.new.self kept c.args.files.now c.loop-file.file-index _ result c.loop-file-test.true one rest);
     }
 
 pub returns-clause-gathers : goal.returns-clause-gathers
 unfolding following_text
 returns-clause-gathers g c =
     let taken = g.W.Sink.taken c.loop-file.sink in
-    c.loop-file.invariant.completes taken c.loop-file.gather (Ok tt) (gathered_items next_text taken c.loop-file.gather c.args.files.now c.loop-file.file-index c.loop-file-test.false)
+    c.loop-file.invariant.completes taken c.loop-file.gather (Ok tt) (gathered_items (next_text file_text) taken c.loop-file.gather c.args.files.now c.loop-file.file-index c.loop-file-test.false)

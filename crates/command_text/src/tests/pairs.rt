@@ -1,0 +1,151 @@
+use super::assert_refused;
+use crate::read_line;
+use media_base::{Command, FieldName, FileNo, Refusal};
+use std::test::Fail;
+
+#[test]
+fn faulty_places_are_refused(rt: HostRuntime) -> Result<(), Fail> {
+    let cases = [
+        ("\"after_j\":7", FieldName::AfterK),
+        ("\"after_j\":7,\"after_k\":null", FieldName::AfterK),
+        ("\"after_j\":7,\"after_k\":\"8\"", FieldName::AfterK),
+        ("\"after_j\":7,\"after_k\":8.0", FieldName::AfterK),
+        ("\"after_j\":7,\"after_k\":-8", FieldName::AfterK),
+        ("\"after_j\":7,\"after_k\":4294967296", FieldName::AfterK),
+        ("\"after_k\":8", FieldName::AfterJ),
+        ("\"after_k\":null", FieldName::AfterJ),
+        ("\"after_j\":null", FieldName::AfterJ),
+        ("\"after_j\":null,\"after_k\":null", FieldName::AfterJ),
+        ("\"after_j\":null,\"after_k\":8", FieldName::AfterJ),
+        ("\"after_j\":[7],\"after_k\":8", FieldName::AfterJ),
+        ("\"after_j\":7e0,\"after_k\":8", FieldName::AfterJ),
+        ("\"after_j\":4294967296,\"after_k\":8", FieldName::AfterJ),
+        ("\"after_J\":7,\"after_k\":8", FieldName::AfterJ),
+    ];
+    for (place, want) in cases {
+        let line = format!(in rt.alloc(); "{{\"do\":\"pairs\",\"n\":0,\"at_most\":17,{place}}}")?;
+        assert_refused(&rt, rt.alloc(), line.as_bytes(), Refusal::NotARequest(want));
+    }
+    Ok(())
+}
+
+// The forms come first, then the distance, then the number of pairs.
+#[test]
+fn faulty_pages_are_refused(rt: HostRuntime) -> Result<(), Fail> {
+    let no_number = Refusal::NotARequest(FieldName::N);
+    let no_distance = Refusal::NotARequest(FieldName::AtMost);
+    let cases = [
+        ("\"at_most\":8", no_number),
+        ("\"n\":null,\"at_most\":\"8\"", no_number),
+        ("\"n\":1.0,\"at_most\":8", no_number),
+        ("\"n\":18446744073709551616,\"at_most\":8", no_number),
+        ("\"n\":1", no_distance),
+        ("\"n\":0,\"distance\":8", no_distance),
+        ("\"n\":1,\"at_most\":null", no_distance),
+        ("\"n\":1,\"at_most\":-0", no_distance),
+        ("\"n\":1,\"at_most\":18446744073709551616", no_distance),
+        ("\"n\":1,\"at_most\":17", Refusal::BadDistance),
+        ("\"n\":0,\"at_most\":17", Refusal::BadDistance),
+        (
+            "\"n\":1,\"at_most\":18446744073709551615",
+            Refusal::BadDistance,
+        ),
+        ("\"n\":0,\"at_most\":16", Refusal::BadNumber),
+        ("\"n\":1025,\"at_most\":16", Refusal::BadNumber),
+        (
+            "\"n\":18446744073709551615,\"at_most\":0",
+            Refusal::BadNumber,
+        ),
+    ];
+    for (fields, want) in cases {
+        let first = format!(in rt.alloc(); "{{\"do\":\"pairs\",{fields}}}")?;
+        assert_refused(&rt, rt.alloc(), first.as_bytes(), want);
+        let place = "\"after_j\":0,\"after_k\":0";
+        let later = format!(in rt.alloc(); "{{\"do\":\"pairs\",{place},{fields}}}")?;
+        assert_refused(&rt, rt.alloc(), later.as_bytes(), want);
+    }
+    Ok(())
+}
+
+// A place may be of any two numbers.
+#[test]
+fn pages_are_read(rt: HostRuntime) -> Result<(), Fail> {
+    let cases = [
+        ("\"n\":1,\"at_most\":0", None, 1, 0),
+        ("\"at_most\":16,\"n\":1024", None, 1_024, 16),
+        (
+            "\"n\":2,\"at_most\":8,\"After_j\":null,\"after\":3,\"distance\":99",
+            None,
+            2,
+            8,
+        ),
+        (
+            "\"n\":2,\"at_most\":8,\"after_j\":0,\"after_k\":0",
+            Some((FileNo(0), FileNo(0))),
+            2,
+            8,
+        ),
+        (
+            "\"n\":2,\"after_k\":4294967295,\"at_most\":8,\"after_j\":7",
+            Some((FileNo(7), FileNo(u32::MAX))),
+            2,
+            8,
+        ),
+        (
+            "\"n\":2,\"after_j\":4294967295,\"at_most\":8,\"after_k\":7",
+            Some((FileNo(u32::MAX), FileNo(7))),
+            2,
+            8,
+        ),
+        (
+            "\"n\":2,\"at_most\":8,\"after_j\":null,\"after_j\":5,\"after_k\":6",
+            Some((FileNo(5), FileNo(6))),
+            2,
+            8,
+        ),
+    ];
+    for (fields, after, n, at_most) in cases {
+        let line = format!(in rt.alloc(); "{{\"do\":\"pairs\",{fields}}}")?;
+        match read_line(rt.alloc(), line.as_bytes())? {
+            Command::Pairs(page) => {
+                assert_eq!(rt; page.after, after);
+                assert_eq!(rt; page.n.number(), n);
+                assert_eq!(rt; page.at_most.bits(), at_most);
+            }
+            _ => panic!(rt; "no pairs: {line}"),
+        }
+    }
+    Ok(())
+}
+
+#[test]
+fn faulty_counts_are_refused(rt: HostRuntime) -> Result<(), Fail> {
+    let faulty = Refusal::NotARequest(FieldName::AtMost);
+    let cases = [
+        ("\"distance\":8", faulty),
+        ("\"at_most\":null", faulty),
+        ("\"at_most\":[8]", faulty),
+        ("\"at_most\":8.0", faulty),
+        ("\"at_most\":18446744073709551616", faulty),
+        ("\"at_most\":17", Refusal::BadDistance),
+        ("\"at_most\":18446744073709551615", Refusal::BadDistance),
+    ];
+    for (fields, want) in cases {
+        let line = format!(in rt.alloc(); "{{\"do\":\"pair_count\",{fields}}}")?;
+        assert_refused(&rt, rt.alloc(), line.as_bytes(), want);
+    }
+    Ok(())
+}
+
+#[test]
+fn counts_are_read(rt: HostRuntime) -> Result<(), Fail> {
+    for bits in [0u8, 8, 16] {
+        let fields = "\"after_j\":null,\"n\":0";
+        let line = format!(in rt.alloc(); "{{\"do\":\"pair_count\",\"at_most\":{bits},{fields}}}")?;
+        match read_line(rt.alloc(), line.as_bytes())? {
+            Command::PairCount(distance) => assert_eq!(rt; distance.bits(), bits),
+            _ => panic!(rt; "no count: {line}"),
+        }
+    }
+    Ok(())
+}
