@@ -1,10 +1,16 @@
 -- What the laws of the crates below say, as the lemmas here take it.
-use Rattle.std.proofs.Common.{◌≡◌, ◌↔◌, ◌<◌, ℕ, List, [], ◌∷◌, ◌++◌, length, map, None}
+use Rattle.std.proofs.Common.{◌≡◌, ◌↔◌, ◌<◌, ℕ, nat_lt, if◌then◌else◌, List, [], ◌∷◌, ◌++◌, length, map, Option, None}
 use Rattle.std.specs.List.{All}
+use Rattle.std.specs.List.Sorted.{IsStrictlySortedBy}
+use Rattle.std.specs.Map.{keys_of}
 use Rattle.media_types.specs.declared.hash.Sha.{Sha}
 use Rattle.media_types.specs.declared.numbers.FileNo.{FileNo}
+use Rattle.spare_tables.specs.Keys.{value_of}
+use Rattle.spare_tables.specs.Order.{pair_cmp}
+use Rattle.spare_tables.specs.Pairs.{pairs_below, value_below}
 use Rattle.file_records.specs.declared.file_row.FileRow.{FileRow}
 use Rattle.file_records.specs.Lookup.{AreDistinct, IsUnknown, file_with}
+use Rattle.file_records.specs.Near.{near_pairs}
 use Rattle.file_records.specs.Searching.{queue_of, rising, searched}
 use Rattle.decision_book.specs.declared.decision_row.DecisionRow.{DecisionRow}
 use Rattle.decision_book.specs.Recorded.{undone_at}
@@ -17,6 +23,10 @@ NotFound = (sha : Sha) (files : List FileRow) → (file_with sha files ≡ None)
 -- with one more file, whose SHA-256 is new, no two have the same
 abbrev pub OneMore : Type 0
 OneMore = (file : FileRow) (files : List FileRow) → AreDistinct files → IsUnknown file.sha files → AreDistinct (files ++ file ∷ [])
+
+-- a file that was never searched is near to none
+abbrev pub NearOneMore : Type 0
+NearOneMore = (file : FileRow) (files : List FileRow) → file.searched ≡ None → near_pairs (files ++ file ∷ []) ≡ near_pairs files
 
 -- a search changes nothing where no searched distance rises, and only there
 abbrev pub NoneRises : Type 0
@@ -41,3 +51,17 @@ SameDecisions = (n : ℕ) (rows : List DecisionRow) → map decision_of (undone_
 -- and stays recorded
 abbrev pub SameRecorded : Type 0
 SameRecorded = (n : ℕ) (rows : List DecisionRow) → length (undone_at n rows) ≡ length rows
+
+-- sorted rows with the same values are the same rows
+abbrev pub SameRows : Type 0
+SameRows = (xs ys : List ((ℕ × ℕ) × ℕ)) → IsStrictlySortedBy pair_cmp (keys_of xs) → IsStrictlySortedBy pair_cmp (keys_of ys) →
+    ((j k : ℕ) → value_of pair_cmp xs (j, k) ≡ value_of pair_cmp ys (j, k)) → xs ≡ ys
+
+-- the rows of the pairs below a number are sorted
+abbrev pub BelowSorted : Type 0
+BelowSorted = (n : ℕ) (value : ℕ → ℕ → Option ℕ) → IsStrictlySortedBy pair_cmp (keys_of (pairs_below n value))
+
+-- and have the values of these pairs
+abbrev pub BelowValue : Type 0
+BelowValue = (n : ℕ) (value : ℕ → ℕ → Option ℕ) (j k : ℕ) →
+    value_of pair_cmp (pairs_below n value) (j, k) ≡ (if nat_lt k n then value_below value j k else None)

@@ -1,23 +1,25 @@
 -- The step's commands by what their tests say.
-use Rattle.std.proofs.Common.{◌≡◌, ℕ, Bool, nat_lt, ◌==◌, ◌&&◌, not, if◌then◌else◌, [], ◌∷◌, ◌++◌, length, slice_get, refl}
+use Rattle.std.proofs.Common.{◌≡◌, ℕ, Bool, nat_lt, ◌==◌, ◌&&◌, not, if◌then◌else◌, List, [], ◌∷◌, ◌++◌, length, map, slice_get, refl}
 use Rattle.std.specs.List.{list_any}
 use Rattle.media_types.specs.declared.decision.Decision.{Decision}
 use Rattle.media_types.specs.declared.limits.TheConstants.{MAX_DECISIONS}
 use Rattle.media_types.specs.declared.new_file.NewFile.{NewFile}
 use Rattle.media_types.specs.declared.numbers.DecisionNo.{DecisionNo}
 use Rattle.media_types.specs.declared.numbers.FileNo.{FileNo}
+use Rattle.media_types.specs.declared.pair_page.PairPage.{PairPage}
 use Rattle.media_types.specs.declared.searching.Searching.{Searching}
 use Rattle.media_base.specs.declared.change.Change.TheVariants as changes
 use Rattle.media_base.specs.declared.refusal.Refusal.TheVariants as refusals
 use Rattle.media_base.specs.declared.reply.ImportStatus.TheVariants as imports
-use Rattle.media_base.specs.declared.reply.Reply.TheVariants.{Imported, Decided, Undone, Relations, Distance, Queues}
+use Rattle.media_base.specs.declared.reply.Reply.TheVariants.{Imported, Decided, Undone, Relations, Pairs, PairCount, Distance, Queues}
 use Rattle.file_records.specs.Rows.{row_of}
 use Rattle.file_records.specs.Searching.{rising}
 use Rattle.decision_book.specs.Recorded.{undone_at}
 use Rattle.decision_book.specs.Standing as book
 use Rattle.relation_groups.specs.Relations.{relations_at}
+use Rattle.potential_pairs.specs.Pages.{named, page_of, within}
 use Rattle.library_machine.specs.Records.{Records}
-use Rattle.library_machine.specs.Step.{Outcome, told, refused, changed, has_file, decide, undo_at, undo, relations, set_distance, search_queue, search_of, search, search_files, next_search, search_job, queues}
+use Rattle.library_machine.specs.Step.{Outcome, told, refused, changed, has_file, decide, undo_at, undo, relations, potential_pairs, pairs, pair_count, set_distance, search_queue, counts, after_search, search_of, search, search_files, next_search, search_job, queues}
 
 -- a new file, where there is room or not
 abbrev pub import_by : Records → NewFile → Bool → Outcome
@@ -74,6 +76,21 @@ distance_by r d same =
 pub distance_is : (r : Records) (d : ℕ) → set_distance r d ≡ distance_by r d (r.distance == d)
 unfolding set_distance
 distance_is r d = refl
+
+pub pairs_is : (r : Records) (page : PairPage) → pairs r page
+    ≡ told r (Pairs (map named (page_of page.after page.n page.at_most (potential_pairs r))))
+unfolding pairs
+pairs_is r page = refl
+
+pub pair_count_is : (r : Records) (m : ℕ) → pair_count r m ≡ told r (PairCount (length (within m (potential_pairs r))))
+unfolding pair_count
+pair_count_is r m = refl
+
+-- a search by which these files rise, where there is room for its near pairs or not
+abbrev pub search_by : Records → Searching → List FileNo → Bool → Outcome
+search_by r s risen room =
+    if room then changed (after_search r s) (counts risen (after_search r s)) (changes.Searched s)
+    else refused r refusals.FullNear
 
 pub search_is : (r : Records) (s : Searching) → search r s ≡ search_of r s (rising s.distance s.files r.files)
 unfolding search

@@ -2,13 +2,14 @@
 use Rattle.std.proofs.Common.{◌≡◌, ◌≢◌, ◌↔◌, ◌⊎◌, inl, inr, ◌≤◌, ℕ, Bool, true, false, not, nat_lt, ◌==◌, ◌&&◌, Option, Some, None, length, slice_get, refl, arith, ap, subst, sym, List, [], ◌∷◌}
 use Rattle.std.specs.List.{All}
 use Rattle.std.proofs.lemmas.Option.{slice_get_cases, slice_get_past}
-use Rattle.std.proofs.lemmas.Bool.{ltb-true, ltb-false, lt-ltb, eqb-true, eqb-false, and_parts, and_cases, not-false, not_from_true, false_from_ne_true, both_ways}
+use Rattle.std.proofs.lemmas.Bool.{ltb-true, ltb-false, lt-ltb, leb-true, leb-false, eqb-true, eqb-false, and_parts, and_cases, not-false, not_from_true, false_from_ne_true, both_ways}
 use Rattle.std.proofs.lemmas.List.Folds.{list_any_at, list_any_none}
 use Rattle.media_types.specs.declared.decision.Decision.{Decision}
 use Rattle.media_types.specs.declared.limits.TheConstants.{MAX_DECISIONS, MAX_FILES}
 use Rattle.media_types.specs.declared.new_file.NewFile.{NewFile}
 use Rattle.media_types.specs.declared.numbers.DecisionNo.{DecisionNo}
 use Rattle.media_types.specs.declared.numbers.FileNo.{FileNo}
+use Rattle.media_types.specs.declared.pair_page.PairPage.{PairPage}
 use Rattle.media_types.specs.declared.searching.Searching.{Searching}
 use Rattle.media_base.specs.declared.command.Caller.{Caller}
 use Rattle.media_base.specs.declared.command.Caller.TheVariants.{Console}
@@ -18,12 +19,13 @@ use Rattle.media_base.specs.declared.refusal.Refusal.{Refusal}
 use Rattle.media_base.specs.declared.refusal.Refusal.TheVariants as refusals
 use Rattle.media_base.specs.declared.reply.Reply.TheVariants.{Refused}
 use Rattle.library_machine.specs.Records.{Records, IsThere, IsNew, IsRecorded, IsFullOfFiles, IsFullOfDecisions}
-use Rattle.library_machine.specs.Laws.{RefusesImports, RefusesDecisions, RefusesUndoing, RefusesRelations, RefusesSearches, IsNeverRefused}
+use Rattle.library_machine.specs.Laws.{RefusesImports, RefusesDecisions, RefusesUndoing, RefusesRelations, FindsTooMany, RefusesSearches, RefusesJobs, IsNeverRefused}
 use Rattle.file_records.specs.Lookup.{file_with}
+use Rattle.file_records.specs.Searching.{rising}
 use Rattle.decision_book.specs.declared.decision_row.DecisionRow.{DecisionRow}
-use Rattle.library_machine.specs.Step.{Outcome, import_at, import, step, has_file, undo_at, search_of, search, next_search}
+use Rattle.library_machine.specs.Step.{Outcome, import_at, import, step, has_file, undo_at, after_search, has_room_for_near, search_of, search, next_search}
 use Rattle.library_machine.proofs.Below.{NotFound}
-use Rattle.library_machine.proofs.Branches.{import_by, decide_by, decide_is, undo_by, undo_is, relations_by, relations_is, distance_by, distance_is, search_is, is_missing, search_files_by, search_files_is, search_job_is, queues_is}
+use Rattle.library_machine.proofs.Branches.{import_by, decide_by, decide_is, undo_by, undo_is, relations_by, relations_is, pairs_is, pair_count_is, distance_by, distance_is, search_by, search_is, is_missing, search_files_by, search_files_is, search_job_is, queues_is}
 
 -- what `RefusesImports` says, of the outcome that an import has
 abbrev RefusesAsImport : Records → NewFile → Outcome → Type 0
@@ -205,39 +207,71 @@ all_there r s none k d lt =
     let is = false_from_ne_true _ (λ e. both_ways _ none (list_any_at Missing s.files k d lt e)) in
     ltb-true _ _ (not-false _ is)
 
-abbrev IsNoRefusal : Outcome → Type 0
-IsNoRefusal o = (why : Refusal) → ¬ (o.reply ≡ Refused why)
-
-search_by_no_refusal : (r : Records) (s : Searching) (risen : List FileNo) → IsNoRefusal (search_of r s risen)
-search_by_no_refusal r s [] why e = cc
-search_by_no_refusal r s (file ∷ risen) why e = cc
-
-search_no_refusal : (r : Records) (s : Searching) → IsNoRefusal (search r s)
-search_no_refusal r s = subst IsNoRefusal (sym (search_is r s)) (search_by_no_refusal r s _)
-
--- what `RefusesSearches` says, of the outcome that a search has
+-- what `RefusesJobs` says, of the outcome that a search has
 abbrev RefusesAsSearch : Records → Searching → Outcome → Type 0
 RefusesAsSearch r s o =
-    ((o.reply ≡ Refused refusals.UnknownFile) ↔ (¬ (All (IsThere r) s.files)))
-    × ((why : Refusal) → o.reply ≡ Refused why → why ≡ refusals.UnknownFile)
+    ((o.reply ≡ Refused refusals.FullNear) ↔ FindsTooMany r s)
+    × ((why : Refusal) → o.reply ≡ Refused why → why ≡ refusals.FullNear)
 
-search_refused : (r : Records) (s : Searching) (missing : Bool) → is_missing r s ≡ missing → RefusesAsSearch r s (search_files_by r s missing)
-search_refused r s true is = (
-  (λ e all. both_ways _ (none_missing r s all) is, λ m. refl),
+search_by_refused : (r : Records) (s : Searching) (file : FileNo) (risen : List FileNo) (room : Bool) →
+    rising s.distance s.files r.files ≡ file ∷ risen → has_room_for_near (after_search r s) ≡ room →
+    RefusesAsSearch r s (search_by r s (file ∷ risen) room)
+search_by_refused r s file risen true is is_room = (
+  (λ e. absurd (cc), λ many. let few = leb-true _ _ is_room in absurd (omega (arith, many.1))),
+  λ why e. absurd (cc),
+)
+search_by_refused r s file risen false is is_room = (
+  (λ e. (λ none. absurd (cc (none, is)), leb-false _ _ is_room), λ many. refl),
   λ why e. cc,
 )
-search_refused r s false is = (
-  (λ e. absurd (search_no_refusal r s _ e), λ m. absurd (m (all_there r s is))),
-  λ why e. absurd (search_no_refusal r s why e),
-)
+
+search_of_refused : (r : Records) (s : Searching) (risen : List FileNo) → rising s.distance s.files r.files ≡ risen →
+    RefusesAsSearch r s (search_of r s risen)
+search_of_refused r s [] is = ((λ e. absurd (cc), λ many. absurd (many.0 is)), λ why e. absurd (cc))
+search_of_refused r s (file ∷ risen) is = search_by_refused r s file risen (has_room_for_near (after_search r s)) is refl
+
+search_refused : (r : Records) (s : Searching) → RefusesAsSearch r s (search r s)
+search_refused r s = subst (RefusesAsSearch r s) (sym (search_is r s)) (search_of_refused r s _ refl)
+
+-- what `RefusesSearches` says, of the outcome that a search of named files has
+abbrev RefusesAsNamed : Records → Searching → Outcome → Type 0
+RefusesAsNamed r s o =
+    ((o.reply ≡ Refused refusals.UnknownFile) ↔ (¬ (All (IsThere r) s.files)))
+    × ((o.reply ≡ Refused refusals.FullNear) ↔ (All (IsThere r) s.files × FindsTooMany r s))
+    × ((why : Refusal) → o.reply ≡ Refused why → (why ≡ refusals.UnknownFile) ⊎ (why ≡ refusals.FullNear))
+
+named_refused : (r : Records) (s : Searching) (missing : Bool) → is_missing r s ≡ missing → RefusesAsNamed r s (search_files_by r s missing)
+named_refused r s true is =
+    let none : ¬ (All (IsThere r) s.files) = λ all. both_ways _ (none_missing r s all) is in (
+      (λ e. none, λ m. refl),
+      (λ e. absurd (cc), λ both. absurd (none both.0)),
+      λ why e. inl cc,
+    )
+named_refused r s false is =
+    let all = all_there r s is in
+    let near = search_refused r s in (
+      (λ e. absurd (cc (near.1 _ e)), λ m. absurd (m all)),
+      (λ e. (all, near.0.0 e), λ both. near.0.1 both.1),
+      λ why e. inr (near.1 why e),
+    )
 
 pub refuses_searches : (r : Records) (caller : Caller) (s : Searching) → RefusesSearches r caller s
 unfolding step
 refuses_searches r Console s =
-    let both = subst (RefusesAsSearch r s) (sym (search_files_is r s)) (search_refused r s _ refl) in
-    record { unknown_file = both.0; no_other = both.1 }
+    let all = subst (RefusesAsNamed r s) (sym (search_files_is r s)) (named_refused r s _ refl) in
+    record { unknown_file = all.0; full_near = all.1; no_other = all.2 }
+
+pub refuses_jobs : (r : Records) (caller : Caller) (n : ℕ) → RefusesJobs r caller n
+unfolding step
+refuses_jobs r Console n =
+    let s = next_search r n in
+    let both = subst (RefusesAsSearch r s) (sym (search_job_is r n)) (search_refused r s) in
+    record { full_near = both.0; no_other = both.1 }
 
 -- ---- commands that are never refused
+
+abbrev IsNoRefusal : Outcome → Type 0
+IsNoRefusal o = (why : Refusal) → ¬ (o.reply ≡ Refused why)
 
 distance_no_refusal : (r : Records) (d : ℕ) (same : Bool) → IsNoRefusal (distance_by r d same)
 distance_no_refusal r d true why e = cc
@@ -250,9 +284,13 @@ distances_pass : (d : ℕ) → HasNoRefusal (commands.SearchDistance d)
 unfolding step
 distances_pass d r Console = subst IsNoRefusal (sym (distance_is r d)) (distance_no_refusal r d _)
 
-jobs_pass : (n : ℕ) → HasNoRefusal (commands.SearchJob n)
+pairs_pass : (page : PairPage) → HasNoRefusal (commands.Pairs page)
 unfolding step
-jobs_pass n r Console = subst IsNoRefusal (sym (search_job_is r n)) (search_no_refusal r (next_search r n))
+pairs_pass page r Console = subst IsNoRefusal (sym (pairs_is r page)) (λ why e. cc)
+
+pair_counts_pass : (m : ℕ) → HasNoRefusal (commands.PairCount m)
+unfolding step
+pair_counts_pass m r Console = subst IsNoRefusal (sym (pair_count_is r m)) (λ why e. cc)
 
 queues_pass : HasNoRefusal commands.Queues
 unfolding step
@@ -265,8 +303,11 @@ rebalancing_passes r Console why e = cc
 pub never_refused_distances : (d : ℕ) → IsNeverRefused (commands.SearchDistance d)
 never_refused_distances d = record { never = distances_pass d }
 
-pub never_refused_jobs : (n : ℕ) → IsNeverRefused (commands.SearchJob n)
-never_refused_jobs n = record { never = jobs_pass n }
+pub never_refused_pairs : (page : PairPage) → IsNeverRefused (commands.Pairs page)
+never_refused_pairs page = record { never = pairs_pass page }
+
+pub never_refused_pair_counts : (m : ℕ) → IsNeverRefused (commands.PairCount m)
+never_refused_pair_counts m = record { never = pair_counts_pass m }
 
 pub never_refused_queues : IsNeverRefused commands.Queues
 never_refused_queues = record { never = queues_pass }

@@ -19,9 +19,9 @@ use Rattle.file_records.specs.Searching.{rising}
 use Rattle.library_machine.specs.Changes.{command_of, if_changed}
 use Rattle.library_machine.specs.Laws.{ChangesAreTold, ChangesLead}
 use Rattle.library_machine.specs.Records.{Records, IsThere}
-use Rattle.library_machine.specs.Step.{Outcome, import_at, import, step, undo_at, search_queue, search_of, search, search_files, next_search, search_job}
+use Rattle.library_machine.specs.Step.{Outcome, import_at, import, step, undo_at, search_queue, after_search, has_room_for_near, search_of, search, search_files, next_search, search_job}
 use Rattle.library_machine.proofs.Below.{NoneRises, QueueIsThere}
-use Rattle.library_machine.proofs.Branches.{import_by, decide_by, decide_is, undo_by, undo_is, relations_by, relations_is, distance_by, distance_is, search_is, search_files_by, search_files_is, search_job_is, queues_is}
+use Rattle.library_machine.proofs.Branches.{import_by, decide_by, decide_is, undo_by, undo_is, relations_by, relations_is, pairs_is, pair_count_is, distance_by, distance_is, search_by, search_is, search_files_by, search_files_is, search_job_is, queues_is}
 use Rattle.library_machine.proofs.Causes.{none_missing}
 
 -- ---- told exactly where the records change
@@ -77,19 +77,25 @@ distance_tells r d false is = (
   λ same. absurd (eqb-false _ _ is (sym (ap (λ (s : Records). s.distance) same))),
 )
 
-search_by_tells : NoneRises → (r : Records) (s : Searching) (risen : List FileNo) →
-    rising s.distance s.files r.files ≡ risen → TellsChange r (search_of r s risen)
-search_by_tells none_rises r s [] is = (λ e. refl, λ same. refl)
-search_by_tells none_rises r s (file ∷ risen) is = (
+search_by_tells : NoneRises → (r : Records) (s : Searching) (file : FileNo) (risen : List FileNo) (room : Bool) →
+    rising s.distance s.files r.files ≡ file ∷ risen → TellsChange r (search_by r s (file ∷ risen) room)
+search_by_tells none_rises r s file risen true is = (
   λ e. absurd (cc),
   λ same.
       let files = ap (λ (s : Records). s.files) same in
       let none = (none_rises s.distance s.files r.files).1 files in
       absurd (cc (none, is)),
 )
+search_by_tells none_rises r s file risen false is = (λ e. refl, λ same. refl)
+
+search_of_tells : NoneRises → (r : Records) (s : Searching) (risen : List FileNo) →
+    rising s.distance s.files r.files ≡ risen → TellsChange r (search_of r s risen)
+search_of_tells none_rises r s [] is = (λ e. refl, λ same. refl)
+search_of_tells none_rises r s (file ∷ risen) is =
+    search_by_tells none_rises r s file risen (has_room_for_near (after_search r s)) is
 
 search_tells : NoneRises → (r : Records) (s : Searching) → TellsChange r (search r s)
-search_tells none_rises r s = subst (TellsChange r) (sym (search_is r s)) (search_by_tells none_rises r s _ refl)
+search_tells none_rises r s = subst (TellsChange r) (sym (search_is r s)) (search_of_tells none_rises r s _ refl)
 
 search_files_tell : NoneRises → (r : Records) (s : Searching) (missing : Bool) → TellsChange r (search_files_by r s missing)
 search_files_tell none_rises r s true = (λ e. refl, λ same. refl)
@@ -101,6 +107,10 @@ changes_are_told none_rises r Console (commands.Import file) = import_tells r fi
 changes_are_told none_rises r Console (commands.Decide d) = subst (TellsChange r) (sym (decide_is r d)) (decision_tells r d _ _ _)
 changes_are_told none_rises r Console (commands.Undo n) = subst (TellsChange r) (sym (undo_is r n)) (undo_tells r n _ refl)
 changes_are_told none_rises r Console (commands.Relations file) = subst (TellsChange r) (sym (relations_is r file)) (relations_tell r file _)
+changes_are_told none_rises r Console (commands.Pairs page) =
+    subst (TellsChange r) (sym (pairs_is r page)) (λ e. refl, λ same. refl)
+changes_are_told none_rises r Console (commands.PairCount m) =
+    subst (TellsChange r) (sym (pair_count_is r m)) (λ e. refl, λ same. refl)
 changes_are_told none_rises r Console (commands.SearchDistance d) =
     subst (TellsChange r) (sym (distance_is r d)) (distance_tells r d _ refl)
 changes_are_told none_rises r Console (commands.SearchJob n) =
@@ -146,12 +156,16 @@ distance_own : (r : Records) (d : ℕ) (same : Bool) → IsOwn (commands.SearchD
 distance_own r d true change e = absurd (cc)
 distance_own r d false change e = ap command_of (sym (same_Some _ _ e))
 
-search_by_own : (r : Records) (s : Searching) (risen : List FileNo) → IsOwn (commands.SearchFiles s) (search_of r s risen)
-search_by_own r s [] change e = absurd (cc)
-search_by_own r s (file ∷ risen) change e = ap command_of (sym (same_Some _ _ e))
+search_by_own : (r : Records) (s : Searching) (risen : List FileNo) (room : Bool) → IsOwn (commands.SearchFiles s) (search_by r s risen room)
+search_by_own r s risen true change e = ap command_of (sym (same_Some _ _ e))
+search_by_own r s risen false change e = absurd (cc)
+
+search_of_own : (r : Records) (s : Searching) (risen : List FileNo) → IsOwn (commands.SearchFiles s) (search_of r s risen)
+search_of_own r s [] change e = absurd (cc)
+search_of_own r s (file ∷ risen) change e = search_by_own r s (file ∷ risen) (has_room_for_near (after_search r s)) change e
 
 search_own : (r : Records) (s : Searching) → IsOwn (commands.SearchFiles s) (search r s)
-search_own r s = subst (IsOwn (commands.SearchFiles s)) (sym (search_is r s)) (search_by_own r s _)
+search_own r s = subst (IsOwn (commands.SearchFiles s)) (sym (search_is r s)) (search_of_own r s _)
 
 search_files_own : (r : Records) (s : Searching) (missing : Bool) → IsOwn (commands.SearchFiles s) (search_files_by r s missing)
 search_files_own r s true change e = absurd (cc)
@@ -168,6 +182,8 @@ own r (commands.Import file) = import_own r file (file_with file.sha r.files)
 own r (commands.Decide d) = subst (IsOwn (commands.Decide d)) (sym (decide_is r d)) (decision_own r d _ _ _)
 own r (commands.Undo n) = subst (IsOwn (commands.Undo n)) (sym (undo_is r n)) (undo_own r n _)
 own r (commands.Relations file) = subst (IsOwn (commands.Relations file)) (sym (relations_is r file)) (relations_own r file _)
+own r (commands.Pairs page) = subst (IsOwn (commands.Pairs page)) (sym (pairs_is r page)) (λ change e. absurd (cc))
+own r (commands.PairCount m) = subst (IsOwn (commands.PairCount m)) (sym (pair_count_is r m)) (λ change e. absurd (cc))
 own r (commands.SearchDistance d) = subst (IsOwn (commands.SearchDistance d)) (sym (distance_is r d)) (distance_own r d _)
 own r (commands.SearchJob n) =
     subst (IsOwn (commands.SearchFiles (next_search r n))) (sym (search_job_is r n)) (search_own r (next_search r n))

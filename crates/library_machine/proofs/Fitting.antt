@@ -1,6 +1,6 @@
 -- Records that fit still fit after each command.
 use Rattle.std.proofs.Common.{◌≡◌, ◌≢◌, ◌<◌, ◌≤◌, ℕ, Bool, true, false, nat_lt, ◌==◌, ◌&&◌, [], ◌∷◌, Option, Some, None, length, map, refl, arith, subst, sym, List, length-append}
-use Rattle.std.proofs.lemmas.Bool.{ltb-true, eqb-false, and_parts}
+use Rattle.std.proofs.lemmas.Bool.{ltb-true, leb-true, eqb-false, and_parts}
 use Rattle.std.proofs.lemmas.List.{map-append}
 use Rattle.std.proofs.lemmas.List.Elements.{All-push}
 use Rattle.media_types.specs.declared.decision.Decision.{Decision}
@@ -18,9 +18,9 @@ use Rattle.library_machine.specs.Records.{Records, Fits}
 use Rattle.library_machine.specs.Laws.{StepsKeepFit, AnswersKeepFit}
 use Rattle.file_records.specs.Lookup.{IsUnknown, file_with}
 use Rattle.file_records.specs.Rows.{row_of}
-use Rattle.library_machine.specs.Step.{Outcome, import_at, import, step, has_file, undo_at, after_search, search_of, search, next_search, by_step, no_memory, journal_full, not_kept}
-use Rattle.library_machine.proofs.Below.{NotFound, OneMore, SameLength, StayDistinct, SameDecisions, SameRecorded}
-use Rattle.library_machine.proofs.Branches.{import_by, decide_by, decide_is, undo_by, undo_is, relations_by, relations_is, distance_by, distance_is, search_is, search_files_by, search_files_is, search_job_is, queues_is}
+use Rattle.library_machine.specs.Step.{Outcome, import_at, import, step, has_file, undo_at, after_search, has_room_for_near, search_of, search, next_search, by_step, no_memory, journal_full, not_kept}
+use Rattle.library_machine.proofs.Below.{NotFound, OneMore, NearOneMore, SameLength, StayDistinct, SameDecisions, SameRecorded}
+use Rattle.library_machine.proofs.Branches.{import_by, decide_by, decide_is, undo_by, undo_is, relations_by, relations_is, pairs_is, pair_count_is, distance_by, distance_is, search_by, search_is, search_files_by, search_files_is, search_job_is, queues_is}
 
 abbrev StillFits : Outcome → Type 0
 StillFits o = Fits o.records
@@ -29,20 +29,21 @@ StillFits o = Fits o.records
 among_more : (n m : ℕ) (ds : List Decision) → n ≤ m → AreAmong n ds → AreAmong m ds
 among_more n m ds le among = λ k d lt. let at = among k d lt in (omega arith, omega arith)
 
-new_file_fits : OneMore → (r : Records) (file : NewFile) (room : Bool) → IsUnknown file.sha r.files → nat_lt (length r.files) MAX_FILES ≡ room → Fits r → Fits (import_by r file room).records
-new_file_fits one_more r file true unknown room fits = record {
+new_file_fits : OneMore → NearOneMore → (r : Records) (file : NewFile) (room : Bool) → IsUnknown file.sha r.files → nat_lt (length r.files) MAX_FILES ≡ room → Fits r → Fits (import_by r file room).records
+new_file_fits one_more near_one_more r file true unknown room fits = record {
   few_files = let lt = ltb-true _ _ room in omega (arith, length-append r.files);
   few_decisions = fits.few_decisions;
+  few_near = rw (near_one_more (row_of file) r.files refl) fits.few_near;
   distinct = one_more (row_of file) r.files fits.distinct unknown;
   among = among_more (length r.files) _ _ (omega (arith, length-append r.files)) fits.among;
   of_two = fits.of_two;
 }
-new_file_fits one_more r file false unknown room fits = fits
+new_file_fits one_more near_one_more r file false unknown room fits = fits
 
-import_fits : NotFound → OneMore → (r : Records) (file : NewFile) (at : Option ℕ) → file_with file.sha r.files ≡ at → Fits r → Fits (import_at r file at).records
-import_fits not_found one_more r file (Some at) is fits = fits
-import_fits not_found one_more r file None is fits =
-    new_file_fits one_more r file (nat_lt (length r.files) MAX_FILES) ((not_found file.sha r.files).0 is) refl fits
+import_fits : NotFound → OneMore → NearOneMore → (r : Records) (file : NewFile) (at : Option ℕ) → file_with file.sha r.files ≡ at → Fits r → Fits (import_at r file at).records
+import_fits not_found one_more near_one_more r file (Some at) is fits = fits
+import_fits not_found one_more near_one_more r file None is fits =
+    new_file_fits one_more near_one_more r file (nat_lt (length r.files) MAX_FILES) ((not_found file.sha r.files).0 is) refl fits
 
 decision_fits : (r : Records) (d : Decision) (there same room : Bool) →
     (has_file r d.a && has_file r d.b) ≡ there → (d.a.0 == d.b.0) ≡ same → nat_lt (length r.decisions) MAX_DECISIONS ≡ room → Fits r →
@@ -53,6 +54,7 @@ decision_fits r d true false false both one few fits = fits
 decision_fits r d true false true both one few fits = record {
   few_files = fits.few_files;
   few_decisions = let lt = ltb-true _ _ few in omega (arith, length-append r.decisions);
+  few_near = fits.few_near;
   distinct = fits.distinct;
   among =
       let there = and_parts _ _ both in
@@ -70,6 +72,7 @@ undoing_fits same_decisions same_recorded r n true fits = fits
 undoing_fits same_decisions same_recorded r n false fits = record {
   few_files = fits.few_files;
   few_decisions = rw (same_recorded n.0 r.decisions) fits.few_decisions;
+  few_near = fits.few_near;
   distinct = fits.distinct;
   among = rw (same_decisions n.0 r.decisions) fits.among;
   of_two = rw (same_decisions n.0 r.decisions) fits.of_two;
@@ -88,27 +91,36 @@ distance_fits r d true fits = fits
 distance_fits r d false fits = record {
   few_files = fits.few_files;
   few_decisions = fits.few_decisions;
+  few_near = fits.few_near;
   distinct = fits.distinct;
   among = fits.among;
   of_two = fits.of_two;
 }
 
-searched_fits : SameLength → StayDistinct → (r : Records) (s : Searching) → Fits r → Fits (after_search r s)
-searched_fits same_length stay_distinct r s fits = record {
+searched_fits : SameLength → StayDistinct → (r : Records) (s : Searching) → has_room_for_near (after_search r s) ≡ true →
+    Fits r → Fits (after_search r s)
+searched_fits same_length stay_distinct r s room fits = record {
   few_files = rw (same_length s.distance s.files r.files) fits.few_files;
   few_decisions = fits.few_decisions;
+  few_near = leb-true _ _ room;
   distinct = stay_distinct s.distance s.files r.files fits.distinct;
   among = rw (same_length s.distance s.files r.files) fits.among;
   of_two = fits.of_two;
 }
 
-search_by_fits : SameLength → StayDistinct → (r : Records) (s : Searching) (risen : List FileNo) → Fits r → Fits (search_of r s risen).records
-search_by_fits same_length stay_distinct r s [] fits = fits
-search_by_fits same_length stay_distinct r s (file ∷ risen) fits = searched_fits same_length stay_distinct r s fits
+search_by_fits : SameLength → StayDistinct → (r : Records) (s : Searching) (risen : List FileNo) (room : Bool) →
+    has_room_for_near (after_search r s) ≡ room → Fits r → Fits (search_by r s risen room).records
+search_by_fits same_length stay_distinct r s risen true room fits = searched_fits same_length stay_distinct r s room fits
+search_by_fits same_length stay_distinct r s risen false room fits = fits
+
+search_of_fits : SameLength → StayDistinct → (r : Records) (s : Searching) (risen : List FileNo) → Fits r → Fits (search_of r s risen).records
+search_of_fits same_length stay_distinct r s [] fits = fits
+search_of_fits same_length stay_distinct r s (file ∷ risen) fits =
+    search_by_fits same_length stay_distinct r s (file ∷ risen) (has_room_for_near (after_search r s)) refl fits
 
 search_fits : SameLength → StayDistinct → (r : Records) (s : Searching) → Fits r → Fits (search r s).records
 search_fits same_length stay_distinct r s fits =
-    subst StillFits (sym (search_is r s)) (search_by_fits same_length stay_distinct r s _ fits)
+    subst StillFits (sym (search_is r s)) (search_of_fits same_length stay_distinct r s _ fits)
 
 search_files_fit : SameLength → StayDistinct → (r : Records) (s : Searching) (missing : Bool) → Fits r → Fits (search_files_by r s missing).records
 search_files_fit same_length stay_distinct r s true fits = fits
@@ -118,6 +130,7 @@ search_files_fit same_length stay_distinct r s false fits = search_fits same_len
 pub record Laws : Type 0 where
   pub not_found : NotFound
   pub one_more : OneMore
+  pub near_one_more : NearOneMore
   pub same_length : SameLength
   pub stay_distinct : StayDistinct
   pub same_decisions : SameDecisions
@@ -126,13 +139,17 @@ pub record Laws : Type 0 where
 pub steps_keep_fit : Laws → StepsKeepFit
 unfolding step import
 steps_keep_fit laws r Console (commands.Import file) fits =
-    import_fits laws.not_found laws.one_more r file (file_with file.sha r.files) refl fits
+    import_fits laws.not_found laws.one_more laws.near_one_more r file (file_with file.sha r.files) refl fits
 steps_keep_fit laws r Console (commands.Decide d) fits =
     subst StillFits (sym (decide_is r d)) (decision_fits r d _ _ _ refl refl refl fits)
 steps_keep_fit laws r Console (commands.Undo n) fits =
     subst StillFits (sym (undo_is r n)) (undo_fits laws.same_decisions laws.same_recorded r n _ fits)
 steps_keep_fit laws r Console (commands.Relations file) fits =
     subst StillFits (sym (relations_is r file)) (relations_fits r file _ fits)
+steps_keep_fit laws r Console (commands.Pairs page) fits =
+    subst StillFits (sym (pairs_is r page)) fits
+steps_keep_fit laws r Console (commands.PairCount m) fits =
+    subst StillFits (sym (pair_count_is r m)) fits
 steps_keep_fit laws r Console (commands.SearchDistance d) fits =
     subst StillFits (sym (distance_is r d)) (distance_fits r d _ fits)
 steps_keep_fit laws r Console (commands.SearchJob n) fits =

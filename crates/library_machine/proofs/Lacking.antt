@@ -11,7 +11,7 @@ use Rattle.library_machine.specs.Laws.{NeverLacks, WantsChange}
 use Rattle.library_machine.specs.Records.{Records}
 use Rattle.library_machine.specs.Step.{Answered, step, by_step, no_memory, journal_full, not_kept}
 use Rattle.library_machine.proofs.Below.{NotFound}
-use Rattle.library_machine.proofs.Causes.{refuses_imports, refuses_decisions, refuses_undoing, refuses_relations, refuses_searches, never_refused_distances, never_refused_jobs, never_refused_queues, never_refused_rebalancing}
+use Rattle.library_machine.proofs.Causes.{refuses_imports, refuses_decisions, refuses_undoing, refuses_relations, refuses_searches, refuses_jobs, never_refused_pairs, never_refused_pair_counts, never_refused_distances, never_refused_queues, never_refused_rebalancing}
 
 -- whether the step itself gives this refusal to some command
 abbrev is_of_steps : Refusal → Bool
@@ -21,6 +21,7 @@ is_of_steps refusals.SameFile = true
 is_of_steps refusals.FullDecisions = true
 is_of_steps refusals.UnknownDecision = true
 is_of_steps refusals.AlreadyUndone = true
+is_of_steps refusals.FullNear = true
 is_of_steps why = false
 
 reasons : NotFound → (r : Records) (caller : Caller) (command : Command) (why : Refusal) →
@@ -31,9 +32,12 @@ reasons not_found r caller (commands.Decide d) why e =
 reasons not_found r caller (commands.Undo n) why e =
     elim ((refuses_undoing r caller n).no_other why e) [ inl one ↦ ap is_of_steps one | inr one ↦ ap is_of_steps one ]
 reasons not_found r caller (commands.Relations file) why e = ap is_of_steps ((refuses_relations r caller file).no_other why e)
+reasons not_found r caller (commands.Pairs page) why e = absurd ((never_refused_pairs page).never r caller why e)
+reasons not_found r caller (commands.PairCount m) why e = absurd ((never_refused_pair_counts m).never r caller why e)
 reasons not_found r caller (commands.SearchDistance d) why e = absurd ((never_refused_distances d).never r caller why e)
-reasons not_found r caller (commands.SearchJob n) why e = absurd ((never_refused_jobs n).never r caller why e)
-reasons not_found r caller (commands.SearchFiles s) why e = ap is_of_steps ((refuses_searches r caller s).no_other why e)
+reasons not_found r caller (commands.SearchJob n) why e = ap is_of_steps ((refuses_jobs r caller n).no_other why e)
+reasons not_found r caller (commands.SearchFiles s) why e =
+    elim ((refuses_searches r caller s).no_other why e) [ inl one ↦ ap is_of_steps one | inr one ↦ ap is_of_steps one ]
 reasons not_found r caller commands.Queues why e = absurd (never_refused_queues.never r caller why e)
 reasons not_found r caller commands.RebalanceJob why e = absurd (never_refused_rebalancing.never r caller why e)
 

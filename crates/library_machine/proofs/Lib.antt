@@ -5,3 +5,7 @@ pub mod Lacking
 pub mod Fitting
 pub mod Refusing
 pub mod Changing
+pub mod FarApart
+pub mod KeptPairs
+pub mod LeastWithin
+pub mod Covering

@@ -13,8 +13,8 @@ use Rattle.decision_book.specs.declared.decision_row.DecisionRow.{DecisionRow}
 use Rattle.library_machine.specs.Laws.{RefusalsChangeNothing, RefusedAnswersChangeNothing}
 use Rattle.library_machine.specs.Records.{Records}
 use Rattle.file_records.specs.Lookup.{file_with}
-use Rattle.library_machine.specs.Step.{Outcome, step, import, import_at, undo_at, search_of, search, next_search, by_step, no_memory, journal_full, not_kept}
-use Rattle.library_machine.proofs.Branches.{import_by, decide_by, decide_is, undo_by, undo_is, relations_by, relations_is, distance_by, distance_is, search_is, search_files_by, search_files_is, search_job_is, queues_is}
+use Rattle.library_machine.specs.Step.{Outcome, step, import, import_at, undo_at, has_room_for_near, after_search, search_of, search, next_search, by_step, no_memory, journal_full, not_kept}
+use Rattle.library_machine.proofs.Branches.{import_by, decide_by, decide_is, undo_by, undo_is, relations_by, relations_is, pairs_is, pair_count_is, distance_by, distance_is, search_by, search_is, search_files_by, search_files_is, search_job_is, queues_is}
 
 -- where the outcome is a refusal, its records are these
 abbrev KeepsIfRefused : Records → Outcome → Type 0
@@ -50,12 +50,16 @@ distance_keeps : (r : Records) (d : ℕ) (same : Bool) → KeepsIfRefused r (dis
 distance_keeps r d true why e = refl
 distance_keeps r d false why e = absurd (cc)
 
-search_by_keeps : (r : Records) (s : Searching) (risen : List FileNo) → KeepsIfRefused r (search_of r s risen)
-search_by_keeps r s [] why e = refl
-search_by_keeps r s (file ∷ risen) why e = absurd (cc)
+search_by_keeps : (r : Records) (s : Searching) (risen : List FileNo) (room : Bool) → KeepsIfRefused r (search_by r s risen room)
+search_by_keeps r s risen true why e = absurd (cc)
+search_by_keeps r s risen false why e = refl
+
+search_of_keeps : (r : Records) (s : Searching) (risen : List FileNo) → KeepsIfRefused r (search_of r s risen)
+search_of_keeps r s [] why e = refl
+search_of_keeps r s (file ∷ risen) why e = search_by_keeps r s (file ∷ risen) (has_room_for_near (after_search r s)) why e
 
 search_keeps : (r : Records) (s : Searching) → KeepsIfRefused r (search r s)
-search_keeps r s = subst (KeepsIfRefused r) (sym (search_is r s)) (search_by_keeps r s _)
+search_keeps r s = subst (KeepsIfRefused r) (sym (search_is r s)) (search_of_keeps r s _)
 
 search_files_keep : (r : Records) (s : Searching) (missing : Bool) → KeepsIfRefused r (search_files_by r s missing)
 search_files_keep r s true why e = refl
@@ -70,6 +74,10 @@ refusals_change_nothing r Console (commands.Undo n) =
     subst (KeepsIfRefused r) (sym (undo_is r n)) (undo_keeps r n _)
 refusals_change_nothing r Console (commands.Relations file) =
     subst (KeepsIfRefused r) (sym (relations_is r file)) (relations_keep r file _)
+refusals_change_nothing r Console (commands.Pairs page) =
+    subst (KeepsIfRefused r) (sym (pairs_is r page)) (λ why e. refl)
+refusals_change_nothing r Console (commands.PairCount m) =
+    subst (KeepsIfRefused r) (sym (pair_count_is r m)) (λ why e. refl)
 refusals_change_nothing r Console (commands.SearchDistance d) =
     subst (KeepsIfRefused r) (sym (distance_is r d)) (distance_keeps r d _)
 refusals_change_nothing r Console (commands.SearchJob n) =

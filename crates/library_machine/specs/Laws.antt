@@ -1,6 +1,7 @@
 -- What holds of each step of the machine.
-use Rattle.std.specs.Prelude.{◌≡◌, ◌≢◌, ◌≤◌, ◌↔◌, ◌⊎◌, Some, None, true, All, length}
+use Rattle.std.specs.Prelude.{◌≡◌, ◌≢◌, ◌<◌, ◌≤◌, ◌↔◌, ◌⊎◌, ℕ, [], Some, None, true, All, length}
 use Rattle.media_types.specs.declared.decision.Decision.{Decision}
+use Rattle.media_types.specs.declared.limits.TheConstants.{MAX_NEAR}
 use Rattle.media_types.specs.declared.new_file.NewFile.{NewFile}
 use Rattle.media_types.specs.declared.numbers.DecisionNo.{DecisionNo}
 use Rattle.media_types.specs.declared.numbers.FileNo.{FileNo}
@@ -13,9 +14,11 @@ use Rattle.media_base.specs.declared.refusal.Refusal.{Refusal}
 use Rattle.media_base.specs.declared.refusal.Refusal.TheVariants as refusals
 use Rattle.media_base.specs.declared.reply.Reply.{Reply}
 use Rattle.media_base.specs.declared.reply.Reply.TheVariants.{Refused}
+use Rattle.file_records.specs.Near.{near_pairs}
+use Rattle.file_records.specs.Searching.{rising}
 use Rattle.library_machine.specs.Changes.{after_change}
 use Rattle.library_machine.specs.Records.{Records, Fits, IsThere, IsNew, IsRecorded, IsFullOfFiles, IsFullOfDecisions}
-use Rattle.library_machine.specs.Step.{Answered, step}
+use Rattle.library_machine.specs.Step.{Answered, after_search, next_search, step}
 
 -- a refused command leaves the records as they were
 abbrev pub RefusalsChangeNothing : Type 0
@@ -87,10 +90,23 @@ pub record RefusesRelations (r : Records) (caller : Caller) (file : FileNo) : Ty
   pub unknown_file : Refuses r caller (commands.Relations file) refusals.UnknownFile ↔ (¬ IsThere r file)
   pub no_other : (why : Refusal) → Refuses r caller (commands.Relations file) why → why ≡ refusals.UnknownFile
 
--- Why a search of files is refused: one of them isn't there.
+-- By the search some file's searched distance rises, and more pairs are near after it than a library holds.
+abbrev pub FindsTooMany : Records → Searching → Type 0
+FindsTooMany r s =
+    (rising s.distance s.files r.files ≢ []) × (MAX_NEAR < length (near_pairs (after_search r s).files))
+
+-- Why a search of files is refused: one of them isn't there; all are, and it finds too many near pairs.
 pub record RefusesSearches (r : Records) (caller : Caller) (s : Searching) : Type 0 where
   pub unknown_file : Refuses r caller (commands.SearchFiles s) refusals.UnknownFile ↔ (¬ (All (IsThere r) s.files))
-  pub no_other : (why : Refusal) → Refuses r caller (commands.SearchFiles s) why → why ≡ refusals.UnknownFile
+  pub full_near : Refuses r caller (commands.SearchFiles s) refusals.FullNear
+      ↔ (All (IsThere r) s.files × FindsTooMany r s)
+  pub no_other : (why : Refusal) → Refuses r caller (commands.SearchFiles s) why →
+      (why ≡ refusals.UnknownFile) ⊎ (why ≡ refusals.FullNear)
+
+-- Why a search of the next files of the queue is refused: it finds too many near pairs.
+pub record RefusesJobs (r : Records) (caller : Caller) (n : ℕ) : Type 0 where
+  pub full_near : Refuses r caller (commands.SearchJob n) refusals.FullNear ↔ FindsTooMany r (next_search r n)
+  pub no_other : (why : Refusal) → Refuses r caller (commands.SearchJob n) why → why ≡ refusals.FullNear
 
 -- The command is never refused.
 pub record IsNeverRefused (command : Command) : Type 0 where

@@ -1,11 +1,12 @@
 -- What a library records, and nothing else. All that it tells is computed from these lists.
 use Rattle.std.specs.Prelude.{◌≡◌, ◌<◌, ◌≤◌, ℕ, Bool, List, [], length, map, Some, slice_get}
 use Rattle.media_types.specs.declared.hash.Sha.{Sha}
-use Rattle.media_types.specs.declared.limits.TheConstants.{FIRST_DISTANCE, MAX_DECISIONS, MAX_FILES}
+use Rattle.media_types.specs.declared.limits.TheConstants.{FIRST_DISTANCE, MAX_DECISIONS, MAX_FILES, MAX_NEAR}
 use Rattle.media_types.specs.declared.numbers.DecisionNo.{DecisionNo}
 use Rattle.media_types.specs.declared.numbers.FileNo.{FileNo}
 use Rattle.file_records.specs.declared.file_row.FileRow.{FileRow}
 use Rattle.file_records.specs.Lookup.{AreDistinct, IsUnknown}
+use Rattle.file_records.specs.Near.{near_pairs}
 use Rattle.decision_book.specs.declared.decision_row.DecisionRow.{DecisionRow}
 use Rattle.decision_book.specs.Standing.{decision_of}
 use Rattle.relation_groups.specs.Laws.{AreOfTwo}
@@ -27,6 +28,7 @@ no_records = record { files = []; decisions = []; distance = FIRST_DISTANCE }
 pub record Fits (r : Records) : Type 0 where
   pub few_files : length r.files ≤ MAX_FILES
   pub few_decisions : length r.decisions ≤ MAX_DECISIONS
+  pub few_near : length (near_pairs r.files) ≤ MAX_NEAR
   pub distinct : AreDistinct r.files
   pub among : AreAmong (length r.files) (map decision_of r.decisions)
   pub of_two : AreOfTwo (map decision_of r.decisions)

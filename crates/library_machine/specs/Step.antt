@@ -1,11 +1,12 @@
 -- The machine: what one command answers, and what is recorded after it.
-use Rattle.std.specs.Prelude.{◌≡◌, ℕ, Bool, ◌==◌, ◌&&◌, not, if◌then◌else◌, List, [], ◌∷◌, ◌++◌, length, take, nat_lt, Option, Some, None, IsSome, slice_get}
+use Rattle.std.specs.Prelude.{◌≡◌, ℕ, Bool, ◌==◌, ◌&&◌, not, if◌then◌else◌, List, [], ◌∷◌, ◌++◌, length, take, map, nat_le, nat_lt, Option, Some, None, IsSome, slice_get}
 use Rattle.std.specs.List.{list_any}
 use Rattle.media_types.specs.declared.decision.Decision.{Decision}
-use Rattle.media_types.specs.declared.limits.TheConstants.{MAX_DECISIONS, MAX_FILES}
+use Rattle.media_types.specs.declared.limits.TheConstants.{MAX_DECISIONS, MAX_FILES, MAX_NEAR}
 use Rattle.media_types.specs.declared.new_file.NewFile.{NewFile}
 use Rattle.media_types.specs.declared.numbers.DecisionNo.{DecisionNo}
 use Rattle.media_types.specs.declared.numbers.FileNo.{FileNo}
+use Rattle.media_types.specs.declared.pair_page.PairPage.{PairPage}
 use Rattle.media_types.specs.declared.searching.Searching.{Searching}
 use Rattle.media_base.specs.declared.change.Change.{Change}
 use Rattle.media_base.specs.declared.change.Change.TheVariants as changes
@@ -19,12 +20,15 @@ use Rattle.media_base.specs.declared.reply.ImportStatus.TheVariants as imports
 use Rattle.media_base.specs.declared.reply.Reply.{Reply}
 use Rattle.media_base.specs.declared.reply.Reply.TheVariants as replies
 use Rattle.file_records.specs.Lookup.{file_with}
+use Rattle.file_records.specs.Near.{near_pairs}
 use Rattle.file_records.specs.Rows.{row_of}
-use Rattle.file_records.specs.Searching.{queue_of, rising, searched}
+use Rattle.file_records.specs.Searching.{deleted, queue_of, rising, searched}
 use Rattle.decision_book.specs.declared.decision_row.DecisionRow.{DecisionRow}
 use Rattle.decision_book.specs.Recorded.{undone_at}
 use Rattle.decision_book.specs.Standing as book
-use Rattle.relation_groups.specs.Relations.{relations_at}
+use Rattle.relation_groups.specs.Relations as groups
+use Rattle.potential_pairs.specs.Pages.{named, page_of, within}
+use Rattle.potential_pairs.specs.Potential.{Row, potentials}
 use Rattle.library_machine.specs.Records.{Records}
 
 -- what is recorded then, the reply, and the change that is to be kept, where the records change
@@ -87,8 +91,24 @@ undo r n = undo_at r n (slice_get r.decisions n.0)
 unfoldable pub relations : Records → FileNo → Outcome
 relations r file =
     if has_file r file then
-    told r (replies.Relations (relations_at (length r.files) (book.standing r.decisions) file))
+    told r (replies.Relations (groups.relations_at (length r.files) (book.standing r.decisions) file))
     else refused r refusals.UnknownFile
+
+-- the relations that the standing decisions make
+abbrev pub related : Records → groups.Relations
+related r = groups.relations (book.standing r.decisions)
+
+-- the potential pairs of the files, in the order of their names
+abbrev pub potential_pairs : Records → List Row
+potential_pairs r = potentials (length r.files) (related r) (deleted r.files) (near_pairs r.files)
+
+-- The first pairs after a place, within a distance.
+unfoldable pub pairs : Records → PairPage → Outcome
+pairs r page = told r (replies.Pairs (map named (page_of page.after page.n page.at_most (potential_pairs r))))
+
+-- How many pairs there are within a distance.
+unfoldable pub pair_count : Records → ℕ → Outcome
+pair_count r m = told r (replies.PairCount (length (within m (potential_pairs r))))
 
 -- the files that are to be searched, ascending
 abbrev pub search_queue : Records → List FileNo
@@ -108,12 +128,18 @@ counts risen after = replies.Searched (record { searched = length risen; left = 
 abbrev pub after_search : Records → Searching → Records
 after_search r s = record r { files = searched s.distance s.files r.files }
 
--- A search of files that are there, by the files whose searched distance rises; where none does, it changes
--- nothing.
+-- there are no more near pairs than a library holds
+abbrev pub has_room_for_near : Records → Bool
+has_room_for_near r = nat_le (length (near_pairs r.files)) MAX_NEAR
+
+-- A search of files that are there, by the files whose searched distance rises. Where none does, it changes
+-- nothing, and where too many pairs would be near, it is refused.
 abbrev pub search_of : Records → Searching → List FileNo → Outcome
 search_of r s [] = told r (counts [] r)
 search_of r s (file ∷ risen) =
+    if has_room_for_near (after_search r s) then
     changed (after_search r s) (counts (file ∷ risen) (after_search r s)) (changes.Searched s)
+    else refused r refusals.FullNear
 
 unfoldable pub search : Records → Searching → Outcome
 search r s = search_of r s (rising s.distance s.files r.files)
@@ -141,6 +167,8 @@ step r callers.Console (commands.Import file) = import r file
 step r callers.Console (commands.Decide d) = decide r d
 step r callers.Console (commands.Undo n) = undo r n
 step r callers.Console (commands.Relations file) = relations r file
+step r callers.Console (commands.Pairs page) = pairs r page
+step r callers.Console (commands.PairCount m) = pair_count r m
 step r callers.Console (commands.SearchDistance d) = set_distance r d
 step r callers.Console (commands.SearchJob n) = search_job r n
 step r callers.Console (commands.SearchFiles s) = search_files r s

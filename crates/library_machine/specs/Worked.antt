@@ -1,5 +1,5 @@
 -- Words for small sessions.
-use Rattle.std.specs.Prelude.{ℕ, List, [], map, replicate}
+use Rattle.std.specs.Prelude.{ℕ, List, [], map, replicate, None, Some}
 use Rattle.media_types.specs.declared.decision.Code.{Code}
 use Rattle.media_types.specs.declared.decision.Code.TheVariants.{Better}
 use Rattle.media_types.specs.declared.numbers.FileNo.{FileNo}
@@ -37,6 +37,18 @@ searched count left = answers.Searched (record { searched = count; left = left }
 -- so many files wait to be searched
 abbrev pub queued : ℕ → Reply
 queued count = answers.Queues (record { search = count; display = 0 })
+
+-- the first n pairs within a distance
+abbrev pub pairs_from : ℕ → ℕ → Command
+pairs_from n m = commands.Pairs (record { after = None; n = n; at_most = m })
+
+-- the first n pairs within a distance behind the one of files j and k
+abbrev pub pairs_behind : ℕ → ℕ → ℕ → ℕ → Command
+pairs_behind j k n m = commands.Pairs (record { after = Some (file j, file k); n = n; at_most = m })
+
+-- these pairs of files with their distances
+abbrev pub listed : List (ℕ × ℕ × ℕ) → Reply
+listed pairs = answers.Pairs (map (λ pair. (file pair.0, file pair.1, pair.2)) pairs)
 
 -- a decision of files a and b
 abbrev pub decide_of : Code → ℕ → ℕ → Command

@@ -3,12 +3,14 @@ ghost use Rattle.media_types.specs.declared.decision.Decision.{Decision};
 ghost use Rattle.media_types.specs.declared.new_file.NewFile.{NewFile};
 ghost use Rattle.media_types.specs.declared.numbers.DecisionNo.{DecisionNo};
 ghost use Rattle.media_types.specs.declared.numbers.FileNo.{FileNo};
+ghost use Rattle.media_types.specs.declared.pair_page.PairPage.{PairPage};
 ghost use Rattle.media_types.specs.declared.searching.Searching.{Searching};
 ghost use Rattle.media_base.specs.declared.command.Caller.{Caller};
 ghost use Rattle.media_base.specs.declared.command.Command.TheVariants as commands;
 ghost use Rattle.media_base.specs.declared.refusal.Refusal.TheVariants as refusals;
+ghost use Rattle.library_machine.specs.Covering.{PairsCover, PagesCover, CountsCover};
 ghost use Rattle.library_machine.specs.Records.{Records, Fits, no_records};
-ghost use Rattle.library_machine.specs.Laws.{RefusalsChangeNothing, RefusedAnswersChangeNothing, NeverLacks, StepsKeepFit, AnswersKeepFit, ChangesAreTold, ChangesLead, RefusesImports, RefusesDecisions, RefusesUndoing, RefusesRelations, RefusesSearches, IsNeverRefused, WantsChange};
+ghost use Rattle.library_machine.specs.Laws.{RefusalsChangeNothing, RefusedAnswersChangeNothing, NeverLacks, StepsKeepFit, AnswersKeepFit, ChangesAreTold, ChangesLead, RefusesImports, RefusesDecisions, RefusesUndoing, RefusesRelations, RefusesSearches, RefusesJobs, IsNeverRefused, WantsChange};
 
 /// A refused command changes nothing.
 pub fn refusals_change_nothing()
@@ -35,6 +37,7 @@ pub fn records_stay_fit()
 {
     file_records::laws();
     file_records::search_laws();
+    file_records::near_laws();
     decision_book::laws();
 }
 
@@ -45,8 +48,10 @@ pub fn refusals_have_causes()
     ensures undoing { (r : Records) (caller : Caller) (n : DecisionNo) → RefusesUndoing r caller n }
     ensures relations { (r : Records) (caller : Caller) (file : FileNo) → RefusesRelations r caller file }
     ensures searches { (r : Records) (caller : Caller) (s : Searching) → RefusesSearches r caller s }
+    ensures jobs { (r : Records) (caller : Caller) (n : ℕ) → RefusesJobs r caller n }
+    ensures pairs { (page : PairPage) → IsNeverRefused (commands.Pairs page) }
+    ensures pair_counts { (m : ℕ) → IsNeverRefused (commands.PairCount m) }
     ensures distances { (d : ℕ) → IsNeverRefused (commands.SearchDistance d) }
-    ensures jobs { (n : ℕ) → IsNeverRefused (commands.SearchJob n) }
     ensures queues { IsNeverRefused commands.Queues }
     ensures rebalancing { IsNeverRefused commands.RebalanceJob }
 {
@@ -63,4 +68,14 @@ pub fn changes_are_kept()
 {
     steps_never_lack();
     file_records::search_laws();
+}
+
+/// Where no file waits to be searched, the potential pairs within the library's distance are those of all
+/// live files that have a hash, and such pairs are told.
+pub fn empty_queue_covers()
+    ensures within { PairsCover }
+    ensures pages { PagesCover }
+    ensures counts { CountsCover }
+{
+    spare_tables::row_laws();
 }

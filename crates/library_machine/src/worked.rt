@@ -1,15 +1,15 @@
 ghost use Rattle.std.specs.Prelude.{◌≡◌, [], ◌∷◌};
 ghost use Rattle.media_types.specs.declared.decision.Code.TheVariants.{Alternates, NotRelated, Same};
-ghost use Rattle.media_base.specs.declared.command.Command.TheVariants.{Queues, RebalanceJob, SearchDistance, SearchJob};
+ghost use Rattle.media_base.specs.declared.command.Command.TheVariants.{PairCount as CountPairs, Queues, RebalanceJob, SearchDistance, SearchJob};
 ghost use Rattle.media_base.specs.declared.refusal.Refusal.TheVariants.{AlreadyUndone, SameFile, UnknownDecision, UnknownFile};
 ghost use Rattle.media_base.specs.declared.reply.ImportStatus.TheVariants.{New, Known};
-ghost use Rattle.media_base.specs.declared.reply.Reply.TheVariants.{Distance, Rebalanced, Refused};
+ghost use Rattle.media_base.specs.declared.reply.Reply.TheVariants.{Distance, PairCount, Rebalanced, Refused};
 ghost use Rattle.library_machine.specs.Records.{no_records};
 ghost use Rattle.library_machine.specs.Session.{replies, replies_behind};
-ghost use Rattle.library_machine.specs.Worked.{decide_of, import_of, import_with, queued, search_of, searched, better_than, relations_of, undo_of, imported, decided, undone, grouped, standing};
+ghost use Rattle.library_machine.specs.Worked.{decide_of, import_of, import_with, queued, pairs_from, pairs_behind, listed, search_of, searched, better_than, relations_of, undo_of, imported, decided, undone, grouped, standing};
 
 /// Small sessions whose replies can be followed by hand. The call does nothing.
-#[tactic(auto, unfolding(crate::specs::Step::step, crate::specs::Step::import, crate::specs::Step::decide, crate::specs::Step::undo, crate::specs::Step::relations, crate::specs::Step::set_distance, crate::specs::Step::search, crate::specs::Step::search_files, crate::specs::Step::search_job, crate::specs::Step::queues, file_records::specs::Searching::queue_of, file_records::specs::Searching::searched, file_records::specs::Searching::rising, relation_groups::specs::Relations::relations_at))]
+#[tactic(auto, unfolding(crate::specs::Step::step, crate::specs::Step::import, crate::specs::Step::decide, crate::specs::Step::undo, crate::specs::Step::relations, crate::specs::Step::set_distance, crate::specs::Step::search, crate::specs::Step::search_files, crate::specs::Step::search_job, crate::specs::Step::queues, file_records::specs::Searching::queue_of, file_records::specs::Searching::searched, file_records::specs::Searching::rising, file_records::specs::Near::near_at, spare_tables::specs::Pairs::pairs_below, potential_pairs::specs::Potential::potential_at, potential_pairs::specs::Pages::page_of, crate::specs::Step::pairs, crate::specs::Step::pair_count, relation_groups::specs::Relations::relations_at))]
 pub fn worked_rows()
     ensures a_known_file_keeps_its_number { replies no_records (import_of 10 ∷ import_of 11 ∷ import_of 10 ∷ [])
         ≡ imported 0 New ∷ imported 1 New ∷ imported 0 Known ∷ [] }
@@ -64,4 +64,31 @@ pub fn worked_rows()
         ≡ queued 1 ∷ searched 2 0 ∷ searched 0 0 ∷ Distance 8 ∷ [] }
     ensures no_such_file_to_search { replies_behind (import_of 10 ∷ []) (search_of (0 ∷ 1 ∷ []) 8 ∷ Queues ∷ RebalanceJob ∷ [])
         ≡ Refused UnknownFile ∷ queued 0 ∷ Rebalanced ∷ [] }
+    ensures pairs_by_distance { replies_behind
+        (import_with 10 (0 ∷ []) ∷ import_with 11 (0xff ∷ []) ∷ import_with 12 (0x1ff ∷ []) ∷ [])
+        (SearchJob 3 ∷ pairs_from 10 16 ∷ SearchDistance 9 ∷ Queues ∷ SearchJob 3 ∷ pairs_from 10 16 ∷ pairs_behind 0 1 1 16 ∷ CountPairs 8 ∷ [])
+        ≡ searched 3 0 ∷ listed ((0, 1, 8) ∷ (1, 2, 1) ∷ []) ∷ Distance 9 ∷ queued 3 ∷ searched 3 0
+        ∷ listed ((0, 1, 8) ∷ (0, 2, 9) ∷ (1, 2, 1) ∷ []) ∷ listed ((0, 2, 9) ∷ []) ∷ PairCount 2 ∷ [] }
+    ensures both_are_searched { replies_behind
+        (import_with 10 (0xaa ∷ []) ∷ import_with 11 (0xaa ∷ []) ∷ [])
+        (SearchJob 1 ∷ pairs_from 10 16 ∷ SearchJob 1 ∷ pairs_from 10 16 ∷ SearchJob 1 ∷ [])
+        ≡ searched 1 1 ∷ listed [] ∷ searched 1 0 ∷ listed ((0, 1, 0) ∷ []) ∷ searched 0 0 ∷ [] }
+    ensures groups_join_and_part { replies_behind
+        (import_with 10 (0 ∷ []) ∷ import_with 11 (1 ∷ []) ∷ import_with 12 (3 ∷ []) ∷ SearchJob 3 ∷ [])
+        (pairs_from 10 16 ∷ pairs_from 10 1 ∷ better_than 0 1 ∷ pairs_from 10 16 ∷ undo_of 0 ∷ pairs_from 10 16 ∷ [])
+        ≡ listed ((0, 1, 1) ∷ (0, 2, 2) ∷ (1, 2, 1) ∷ []) ∷ listed ((0, 1, 1) ∷ (1, 2, 1) ∷ [])
+        ∷ decided 0 ∷ listed ((0, 2, 1) ∷ []) ∷ undone 0 ∷ listed ((0, 1, 1) ∷ (0, 2, 2) ∷ (1, 2, 1) ∷ []) ∷ [] }
+    ensures alternates_are_no_pair { replies_behind
+        (import_with 10 (0 ∷ []) ∷ import_with 11 (1 ∷ []) ∷ import_with 12 (3 ∷ []) ∷ SearchJob 3 ∷ [])
+        (decide_of Alternates 0 1 ∷ pairs_from 10 16 ∷ undo_of 0 ∷ pairs_from 10 16 ∷ [])
+        ≡ decided 0 ∷ listed ((0, 2, 2) ∷ (1, 2, 1) ∷ []) ∷ undone 0
+        ∷ listed ((0, 1, 1) ∷ (0, 2, 2) ∷ (1, 2, 1) ∷ []) ∷ [] }
+    ensures not_related_groups_are_no_pair { replies_behind
+        (import_with 10 (0 ∷ []) ∷ import_with 11 (1 ∷ []) ∷ import_with 12 (3 ∷ []) ∷ SearchJob 3 ∷ better_than 0 1 ∷ [])
+        (decide_of NotRelated 1 2 ∷ CountPairs 16 ∷ undo_of 1 ∷ pairs_from 10 16 ∷ [])
+        ≡ decided 1 ∷ PairCount 0 ∷ undone 1 ∷ listed ((0, 2, 1) ∷ []) ∷ [] }
+    ensures all_bits_differ { replies_behind
+        (import_with 10 (0 ∷ []) ∷ import_with 11 (0xffffffffffffffff ∷ []) ∷ SearchDistance 16 ∷ [])
+        (SearchJob 2 ∷ pairs_from 10 16 ∷ [])
+        ≡ searched 2 0 ∷ listed [] ∷ [] }
 {}

@@ -1,4 +1,4 @@
-use Rattle.library_machine.proofs.Causes.{refuses_imports, refuses_decisions, refuses_undoing, refuses_relations, refuses_searches, never_refused_distances, never_refused_jobs, never_refused_queues, never_refused_rebalancing}
+use Rattle.library_machine.proofs.Causes.{refuses_imports, refuses_decisions, refuses_undoing, refuses_relations, refuses_searches, refuses_jobs, never_refused_pairs, never_refused_pair_counts, never_refused_distances, never_refused_queues, never_refused_rebalancing}
 use Rattle.library_machine.proofs.laws.refusals_have_causes.Goals as goal
 
 pub returns-clause-imports : goal.returns-clause-imports
@@ -20,7 +20,13 @@ pub returns-clause-distances : goal.returns-clause-distances
 returns-clause-distances c = never_refused_distances
 
 pub returns-clause-jobs : goal.returns-clause-jobs
-returns-clause-jobs c = never_refused_jobs
+returns-clause-jobs c = refuses_jobs
+
+pub returns-clause-pairs : goal.returns-clause-pairs
+returns-clause-pairs c = never_refused_pairs
+
+pub returns-clause-pair_counts : goal.returns-clause-pair_counts
+returns-clause-pair_counts c = never_refused_pair_counts
 
 pub returns-clause-queues : goal.returns-clause-queues
 returns-clause-queues c = never_refused_queues

@@ -1,0 +1,33 @@
+use Rattle.std.proofs.Common.{refl}
+use lib.Count.{ones, ones_in}
+use Rattle.spare_tables.specs.Pairs.{pairs_below}
+use Rattle.file_records.specs.Near.{near_at}
+use Rattle.file_records.specs.Searching.{queue_of, rising, searched}
+use Rattle.potential_pairs.specs.Pages.{page_of}
+use Rattle.potential_pairs.specs.Potential.{potential_at}
+use Rattle.library_machine.specs.Step.{import, decide, undo, search, search_job, set_distance, pairs, pair_count, queues, step}
+use Rattle.library_machine.proofs.FarApart.{far_apart}
+use Rattle.library_machine.proofs.worked.worked_rows.Goals as goal
+
+pub returns-clause-both_are_searched : goal.returns-clause-both_are_searched
+unfolding step import search search_job pairs searched rising queue_of near_at pairs_below potential_at page_of ones ones_in
+returns-clause-both_are_searched c = refl
+
+pub returns-clause-pairs_by_distance : goal.returns-clause-pairs_by_distance
+unfolding step import search search_job set_distance queues pairs pair_count searched rising queue_of near_at pairs_below potential_at page_of ones ones_in
+returns-clause-pairs_by_distance c = refl
+
+pub returns-clause-groups_join_and_part : goal.returns-clause-groups_join_and_part
+unfolding step import decide undo search search_job set_distance queues pairs pair_count searched rising queue_of near_at pairs_below potential_at page_of ones ones_in
+returns-clause-groups_join_and_part c = refl
+
+pub returns-clause-alternates_are_no_pair : goal.returns-clause-alternates_are_no_pair
+unfolding step import decide undo search search_job set_distance queues pairs pair_count searched rising queue_of near_at pairs_below potential_at page_of ones ones_in
+returns-clause-alternates_are_no_pair c = refl
+
+pub returns-clause-not_related_groups_are_no_pair : goal.returns-clause-not_related_groups_are_no_pair
+unfolding step import decide undo search search_job set_distance queues pairs pair_count searched rising queue_of near_at pairs_below potential_at page_of ones ones_in
+returns-clause-not_related_groups_are_no_pair c = refl
+
+pub returns-clause-all_bits_differ : goal.returns-clause-all_bits_differ
+returns-clause-all_bits_differ c = far_apart
