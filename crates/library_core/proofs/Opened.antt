@@ -1,5 +1,5 @@
 -- What is kept opens the records, also after one more change.
-use Rattle.std.proofs.Common.{◌≡◌, ◌<◌, ◌≤◌, ℕ, suc, ◌+◌, [], ◌∷◌, length, drop, get_or, slice_get, arith, Option, Some, None, option_map, Result, Ok, Err, IfOk, IfErr, ◌≢◌, refl, ap, subst, sym, ◌∙◌}
+use Rattle.std.proofs.Common.{◌≡◌, ◌<◌, ◌≤◌, ℕ, Bool, true, false, suc, ◌+◌, [], ◌∷◌, length, drop, get_or, slice_get, arith, Option, Some, None, IsSome, option_map, Result, Ok, Err, IfOk, IfErr, ◌≢◌, refl, ap, subst, sym, ◌∙◌}
 use Rattle.std.specs.Option.{option_map_or}
 use Rattle.std.proofs.lemmas.Option.{same_Some, slice_get_within, get_or_from_slice_get, slice_get-get_or}
 use Rattle.std.proofs.Math.ListN.{drop_of_length-le}
@@ -87,3 +87,12 @@ pub never_bad : {A B : Type 0} (result : Result A (LoadFail × B)) (readings : R
     IfErr result (λ fail. (n : ℕ) → fail.0 ≢ fails.BadStore n)
 never_bad (Ok library) readings r bad opens = tt
 never_bad (Err fail) readings r bad opens = λ n told. let both = sym (bad n told) ∙ opens in cc both
+
+-- a keeper that tells whether it is alien, and isn't, doesn't make the store alien
+pub never_alien : {A B : Type 0} (result : Result A (LoadFail × B)) (alien : Option Bool) →
+    IfErr result (λ fail. fail.0 ≡ fails.AlienStore → alien ≢ Some false) → alien ≢ Some true → IsSome alien →
+    IfErr result (λ fail. fail.0 ≢ fails.AlienStore)
+never_alien (Ok library) alien why own told = tt
+never_alien (Err fail) None why own told = absurd (cc told)
+never_alien (Err fail) (Some true) why own told = λ is. own refl
+never_alien (Err fail) (Some false) why own told = λ is. why is refl

@@ -1,5 +1,5 @@
 -- What is prepared for a command is its outcome.
-use Rattle.std.proofs.Common.{◌≡◌, ◌≤◌, ℕ, Bool, true, false, nat_lt, Vec, Global, ◌==◌, ◌&&◌, Some, None, List, [], ◌∷◌, ◌++◌, length, slice_get, not, refl, arith, ap, sym, ◌∙◌}
+use Rattle.std.proofs.Common.{◌≡◌, ◌≤◌, ℕ, Bool, true, false, nat_lt, Vec, Global, ◌==◌, ◌&&◌, Some, None, List, [], ◌∷◌, ◌++◌, length, slice_get, not, refl, arith, ap, subst, sym, ◌∙◌}
 use Rattle.std.proofs.lemmas.Bool.{ltb-true, lt-ltb, eqb-true, eqb-false, and_parts}
 use Rattle.std.proofs.lemmas.Option.{same_Some, slice_get_within}
 use Rattle.media_types.specs.declared.decision.Decision.{Decision}
@@ -28,12 +28,16 @@ use Rattle.relation_groups.specs.Reading.{Planned as GroupsPlanned}
 use Rattle.tree_upkeep.specs.Queue.{Work}
 use Rattle.vp_tree.specs.declared.node.NodeView.{NodeView}
 use Rattle.vp_tree.specs.declared.plan.InsertPlan.{InsertPlan}
+use Rattle.potential_pairs.specs.Planning.{PlanView}
+use Rattle.potential_pairs.specs.Potential.{Kept as PairsKept}
 use Rattle.relation_groups.specs.Relations.{Relations, after, by_code, decided, relations, relations_at, standing_of}
+use Rattle.relation_groups.specs.Laws.{AreOfTwo, AreSound}
 use Rattle.library_machine.specs.Laws.{StepsKeepFit}
 use Rattle.library_machine.specs.Records.{Records, Fits}
 use Rattle.library_machine.specs.Step as machine
 use Rattle.library_machine.specs.Step.{Outcome, told, changed, has_file, import, decide, undo, step}
-use Rattle.library_core.specs.Tables.{TablesView, AreInStep, IsPrepared, records_of, words_planned}
+use Rattle.library_core.specs.Tables.{TablesView, AreInStep, IsPrepared, LeadsPairs, records_of, words_planned}
+use Rattle.library_core.proofs.Refolding.{AllRecorded, standing_of_two}
 use Rattle.library_core.specs.declared.plan.Prepared.TheVariants as prepared
 use Rattle.library_core.specs.declared.plan.TablesPlan.TheVariants as plans
 
@@ -63,7 +67,7 @@ pub import_prepared : (old : TablesView) (files : Table FileRow) (book : Recorde
     copy ≡ file → plan.row ≡ row_of file → IsPlannedFor plan files →
     words_planned inserts.items ≡ plan.words → length plan.words ≤ tree.spare → nat_lt 0 (length file.hashes) ≡ queued →
     IsPrepared (import (records_of old) file)
-    (record { files = files; book = book; groups = groups; tree = tree; work = work; distance = old.distance })
+    (record { files = files; book = book; groups = groups; tree = tree; pairs = old.pairs; work = work; distance = old.distance })
     (prepared.Change (plans.Import plan inserts queued) (changes.File copy) (replies.Imported (record { file = record { 0 = count }; status = imports.New })))
 import_prepared old files book groups tree work file copy plan inserts queued count keep step same_files same_book book_room group_room queue_room new room is same is_row planned words tree_room hashes =
     let r = records_of old in
@@ -77,6 +81,8 @@ import_prepared old files book groups tree work file copy plan inserts queued co
         group_room = group_room;
         words = words;
         tree_room = tree_room;
+        unsearched = ap (λ (row : FileRow). row.searched) is_row;
+        live = ap (λ (row : FileRow). row.live) is_row;
         told = ap (is_queued old.distance) is_row ∙ new_queued (nat_lt 0 (length file.hashes)) ∙ hashes;
         queue_room = queue_room;
         fits = fits;
@@ -110,15 +116,38 @@ after_one R (first ∷ ds) d = after_one (decided first R) ds d
 abbrev pub StandsLast : Type 0
 StandsLast = (rows : List DecisionRow) (d : Decision) → book.standing (rows ++ book.row_of d ∷ []) ≡ book.standing rows ++ d ∷ []
 
-pub decide_prepared : StandsLast → (old : TablesView) (rows : Recorded) (groups : Kept) (d : Decision) (plan : GroupsPlanned) (count : ℕ) →
+-- one more decision makes the relations that all standing ones make
+decided_related : StandsLast → (t : TablesView) (groups : Kept) (d : Decision) (plan : GroupsPlanned) → AreInStep t →
+    relations_after plan groups ≡ by_code d.code d.a.0 d.b.0 (relations_in t.groups) →
+    relations_after plan groups ≡ relations (book.standing (t.book.rows ++ book.row_of d ∷ []))
+decided_related stands_last t groups d plan step related =
+    related ∙ ap (decided d) step.related ∙ sym (after_one _ (book.standing t.book.rows) d) ∙ ap relations (sym (stands_last t.book.rows d))
+
+-- what the groups say of decisions of two files each
+abbrev pub SoundLaw : Type 0
+SoundLaw = (ds : List Decision) → AreOfTwo ds → AreSound (relations ds)
+
+pub sound_here : SoundLaw → AllRecorded → (t : TablesView) (groups : Kept) → AreInStep t → groups ≡ t.groups → AreSound (relations_in groups)
+sound_here sound recorded t groups step same = rw (same, step.related) (sound _ (standing_of_two recorded t.book.rows step.fits.of_two))
+
+pub sound_decided : SoundLaw → AllRecorded → StandsLast → StepsKeepFit → (t : TablesView) (groups : Kept) (d : Decision) (plan : GroupsPlanned) → AreInStep t →
+    (has_file (records_of t) d.a && has_file (records_of t) d.b) ≡ true → (d.a.0 == d.b.0) ≡ false → nat_lt (length t.book.rows) MAX_DECISIONS ≡ true →
+    relations_after plan groups ≡ by_code d.code d.a.0 d.b.0 (relations_in t.groups) → AreSound (relations_after plan groups)
+sound_decided sound recorded stands_last keep t groups d plan step there two few related =
+    let r = records_of t in
+    let fits : Fits (record r { decisions = r.decisions ++ book.row_of d ∷ [] }) = subst (λ (o : Outcome). Fits o.records) (decide_takes r d there two few) (decide_fits keep r d step.fits) in
+    rw (decided_related stands_last t groups d plan step related) (sound _ (standing_of_two recorded _ fits.of_two))
+
+pub decide_prepared : StandsLast → (old : TablesView) (rows : Recorded) (groups : Kept) (pairs : PairsKept) (d : Decision) (plan : GroupsPlanned) (moved : PlanView) (count : ℕ) →
     StepsKeepFit → AreInStep old →
     rows.rows ≡ old.book.rows → 1 ≤ rows.spare → groups ≡ old.groups →
     (has_file (records_of old) d.a && has_file (records_of old) d.b) ≡ true → (d.a.0 == d.b.0) ≡ false →
     nat_lt (length old.book.rows) MAX_DECISIONS ≡ true → count ≡ length old.book.rows →
     IsPlanFor plan groups → relations_after plan groups ≡ by_code d.code d.a.0 d.b.0 (relations_in old.groups) →
-    IsPrepared (decide (records_of old) d) (record { files = old.files; book = rows; groups = groups; tree = old.tree; work = old.work; distance = old.distance })
-    (prepared.Change (plans.Decide d plan) (changes.Decision d) (replies.Decided (record { 0 = count })))
-decide_prepared stands_last old rows groups d plan count keep step same room same_groups there two few is planned related =
+    LeadsPairs moved (relations_after plan groups) old.files.rows pairs →
+    IsPrepared (decide (records_of old) d) (record { files = old.files; book = rows; groups = groups; tree = old.tree; pairs = pairs; work = old.work; distance = old.distance })
+    (prepared.Change (plans.Decide d plan moved) (changes.Decision d) (replies.Decided (record { 0 = count })))
+decide_prepared stands_last old rows groups pairs d plan moved count keep step same room same_groups there two few is planned related paired =
     let r = records_of old in
     let o = decide_takes r d there two few in
     let both = and_parts _ _ there in (
@@ -130,7 +159,8 @@ decide_prepared stands_last old rows groups d plan count keep step same room sam
         few = rw same (ltb-true _ _ few);
         room = room;
         planned = planned;
-        related = related ∙ ap (decided d) step.related ∙ sym (after_one _ (book.standing old.book.rows) d) ∙ ap relations (sym (stands_last old.book.rows d)) ∙ rw same refl;
+        related = decided_related stands_last old groups d plan step related ∙ rw same refl;
+        paired = paired;
         fits = decide_fits keep r d step.fits;
         leads = ap (λ (o : Outcome). o.records) o ∙ rw same refl;
       },
@@ -171,13 +201,14 @@ undo_takes : (r : Records) (n : DecisionNo) (row : DecisionRow) → slice_get r.
 unfolding undo
 undo_takes r n row there stands = rw (there, stands) refl
 
-pub undo_prepared : (old : TablesView) (groups : Kept) (n : DecisionNo) (row : DecisionRow) (plan : GroupsPlanned) →
+pub undo_prepared : (old : TablesView) (groups : Kept) (pairs : PairsKept) (n : DecisionNo) (row : DecisionRow) (plan : GroupsPlanned) (moved : PlanView) →
     StepsKeepFit → AreInStep old →
     slice_get old.book.rows n.0 ≡ Some row → row.undone ≡ false →
     IsPlanFor plan groups → relations_after plan groups ≡ relations (book.standing (undone_at n.0 old.book.rows)) →
-    IsPrepared (undo (records_of old) n) (record { files = old.files; book = old.book; groups = groups; tree = old.tree; work = old.work; distance = old.distance })
-    (prepared.Change (plans.Undo n plan) (changes.Undo n) (replies.Undone n))
-undo_prepared old groups n row plan keep step there stands planned related =
+    LeadsPairs moved (relations_after plan groups) old.files.rows pairs →
+    IsPrepared (undo (records_of old) n) (record { files = old.files; book = old.book; groups = groups; tree = old.tree; pairs = pairs; work = old.work; distance = old.distance })
+    (prepared.Change (plans.Undo n plan moved) (changes.Undo n) (replies.Undone n))
+undo_prepared old groups pairs n row plan moved keep step there stands planned related paired =
     let r = records_of old in
     let o = undo_takes r n row there stands in (
       ap (λ (o : Outcome). o.change) o,
@@ -187,6 +218,7 @@ undo_prepared old groups n row plan keep step there stands planned related =
         stands = λ other is. ap (λ (row : DecisionRow). row.undone) (same_Some _ _ (sym is ∙ there)) ∙ stands;
         planned = planned;
         related = related;
+        paired = paired;
         fits = undo_fits keep r n step.fits;
         leads = ap (λ (o : Outcome). o.records) o;
       },

@@ -10,7 +10,8 @@ use Rattle.decision_book.specs.Recorded.{undone_at}
 use Rattle.decision_book.specs.Standing.{decision_of, standing}
 use Rattle.relation_groups.specs.Clusters.{IsClosed, IsSplitBy, IsWithin, is_one_of, outside, patched, touching}
 use Rattle.relation_groups.specs.Laws.{AreOfTwo, ClosedSetsSplit, OthersStay}
-use Rattle.relation_groups.specs.Relations.{AreAmong, files, relations}
+use Rattle.media_types.specs.Numbered.{files}
+use Rattle.relation_groups.specs.Relations.{AreAmong, relations}
 
 -- ---- the decisions that stand
 
@@ -29,12 +30,15 @@ all_standing recorded P rows all = λ k d lt. All-contains P (map decision_of ro
 pub standing_among : AllRecorded → (n : ℕ) (rows : List DecisionRow) → AreAmong n (map decision_of rows) → AreAmong n (standing rows)
 standing_among recorded n rows among = all_standing recorded (λ d. (d.a.0 < n) × (d.b.0 < n)) rows among
 
+pub standing_of_two : AllRecorded → (rows : List DecisionRow) → AreOfTwo (map decision_of rows) → AreOfTwo (standing rows)
+standing_of_two recorded rows two = all_standing recorded (λ d. d.a.0 ≢ d.b.0) rows two
+
 -- also once one is undone
 pub left_among : AllRecorded → KeepsDecisions → (n m : ℕ) (rows : List DecisionRow) → AreAmong m (map decision_of rows) → AreAmong m (standing (undone_at n rows))
 left_among recorded same n m rows among = standing_among recorded m (undone_at n rows) (rw (same n rows) among)
 
 pub left_of_two : AllRecorded → KeepsDecisions → (n : ℕ) (rows : List DecisionRow) → AreOfTwo (map decision_of rows) → AreOfTwo (standing (undone_at n rows))
-left_of_two recorded same n rows two = all_standing recorded (λ d. d.a.0 ≢ d.b.0) (undone_at n rows) (rw (same n rows) two)
+left_of_two recorded same n rows two = standing_of_two recorded (undone_at n rows) (rw (same n rows) two)
 
 -- ---- all files
 

@@ -1,7 +1,7 @@
 -- What is prepared for a search is its outcome.
 use Rattle.std.proofs.Common.{◌≡◌, ◌≢◌, ◌↔◌, ◌<◌, ◌≤◌, ◌+◌, nat_lt, ℕ, zero, suc, Bool, true, false, not, ◌||◌, List, [], ◌∷◌, length, get_or, take, refl, arith, ap, subst, sym, ◌∙◌}
 use Rattle.std.specs.List.{All, list_any}
-use Rattle.std.proofs.lemmas.Bool.{ltb-true, ltb-false, lt-ltb}
+use Rattle.std.proofs.lemmas.Bool.{ltb-true, ltb-false, le-leb, lt-leb, lt-ltb}
 use Rattle.std.proofs.lemmas.List.{get_or_default}
 use Rattle.media_types.specs.Batch.{IsBatch}
 use Rattle.media_types.specs.declared.numbers.FileNo.{FileNo}
@@ -10,10 +10,16 @@ use Rattle.media_base.specs.declared.change.Change.TheVariants as changes
 use Rattle.media_base.specs.declared.reply.Reply.TheVariants as replies
 use Rattle.file_records.specs.declared.file_row.FileRow.{FileRow}
 use Rattle.file_records.specs.Lookup.{AreDistinct}
+use Rattle.file_records.specs.Near.{near_pairs}
 use Rattle.file_records.specs.Searching.{queue_of, rising, searched}
+use Rattle.media_types.specs.declared.limits.TheConstants.{MAX_NEAR}
+use Rattle.media_base.specs.declared.refusal.Refusal.TheVariants as refusals
+use Rattle.relation_groups.specs.Reading.{relations_in}
+use Rattle.potential_pairs.specs.Planning.{PlanView}
+use Rattle.potential_pairs.specs.Planning.{after as pairs_after}
 use Rattle.library_machine.specs.Records.{Records, Fits}
-use Rattle.library_machine.specs.Step.{Outcome, after_search, has_file, next_search, search, search_files, search_job, search_of, search_queue}
-use Rattle.library_core.specs.Tables.{TablesView, AreInStep, IsPrepared, records_of}
+use Rattle.library_machine.specs.Step.{Outcome, after_search, changed, counts, refused, has_file, next_search, search, search_files, search_job, search_of, search_queue}
+use Rattle.library_core.specs.Tables.{TablesView, AreInStep, IsPrepared, LeadsPairs, records_of}
 use Rattle.library_core.specs.declared.plan.Prepared.TheVariants as prepared
 use Rattle.library_core.specs.declared.plan.TablesPlan.TheVariants as plans
 
@@ -28,37 +34,67 @@ search_is : (r : Records) (s : Searching) → search r s ≡ search_of r s (risi
 unfolding search
 search_is r s = refl
 
-fits_after : Laws → (r : Records) (s : Searching) → Fits r → Fits (after_search r s)
-fits_after laws r s fits =
+fits_after : Laws → (r : Records) (s : Searching) → Fits r → length (near_pairs (after_search r s).files) ≤ MAX_NEAR → Fits (after_search r s)
+fits_after laws r s fits few =
     let n = laws.same_length s.distance s.files r.files in
     record {
       few_files = rw n fits.few_files;
       few_decisions = fits.few_decisions;
+      few_near = few;
       distinct = laws.distinct s.distance s.files r.files fits.distinct;
       among = rw n fits.among;
       of_two = fits.of_two;
     }
 
-pub search_prepared : Laws → (t : TablesView) (s : Searching) (files : List FileNo) (left : ℕ) → AreInStep t →
+pub search_prepared : Laws → (t : TablesView) (s : Searching) (files : List FileNo) (left : ℕ) (pairs : PlanView) → AreInStep t →
     files ≡ rising s.distance s.files t.files.rows → files ≢ [] →
     left ≡ length (queue_of t.distance (searched s.distance s.files t.files.rows)) →
+    LeadsPairs pairs (relations_in t.groups) (searched s.distance files t.files.rows) t.pairs →
+    length (near_pairs (searched s.distance s.files t.files.rows)) ≤ MAX_NEAR →
     IsPrepared (search (records_of t) s) t
-    (prepared.Change (plans.Search files s.distance) (changes.Searched s) (replies.Searched (record { searched = length files; left = left })))
-search_prepared laws t s [] left step risen some waiting = absurd (some refl)
-search_prepared laws t s (file ∷ files) left step risen some waiting =
+    (prepared.Change (plans.Search files s.distance pairs) (changes.Searched s) (replies.Searched (record { searched = length files; left = left })))
+search_prepared laws t s [] left pairs step risen some waiting paired few = absurd (some refl)
+search_prepared laws t s (file ∷ files) left pairs step risen some waiting paired few =
     let r = records_of t in
-    let o : search r s ≡ search_of r s (file ∷ files) = search_is r s ∙ ap (search_of r s) (sym risen) in
+    let o : search r s ≡ changed (after_search r s) (counts (file ∷ files) (after_search r s)) (changes.Searched s) =
+    search_is r s ∙ ap (search_of r s) (sym risen) ∙ rw (le-leb _ _ few) refl in
     let all = laws.enough s.distance s.files t.files.rows in (
       ap (λ (o : Outcome). o.change) o,
       ap (λ (o : Outcome). o.reply) o ∙ ap (λ (n : ℕ). replies.Searched (record { searched = length (file ∷ files); left = n })) (sym waiting),
       record {
         known = subst (λ (all : List FileNo). All (λ f. f.0 < length t.files.rows) all) (sym risen) (laws.known s.distance s.files t.files.rows);
-        fits = subst (λ (o : Outcome). Fits o.records) (sym o) (fits_after laws r s step.fits);
+        fits = subst (λ (o : Outcome). Fits o.records) (sym o) (fits_after laws r s step.fits few);
+        paired = paired;
         leads =
             ap (λ (o : Outcome). o.records) o
             ∙ ap (λ (rows : List FileRow). record r { files = rows }) (sym (ap (λ (risen : List FileNo). searched s.distance risen t.files.rows) risen ∙ all));
       },
       refl,
+    )
+
+-- how many pairs are near after a search
+pub near_count : Laws → (t : TablesView) (s : Searching) (files : List FileNo) (pairs : PlanView) →
+    files ≡ rising s.distance s.files t.files.rows →
+    LeadsPairs pairs (relations_in t.groups) (searched s.distance files t.files.rows) t.pairs →
+    length (pairs_after pairs t.pairs.rows).near ≡ length t.pairs.rows.near + length pairs.near →
+    length (near_pairs (searched s.distance s.files t.files.rows)) ≡ length t.pairs.rows.near + length pairs.near
+near_count laws t s files pairs risen paired counted =
+    let same : searched s.distance files t.files.rows ≡ searched s.distance s.files t.files.rows =
+    ap (λ (risen : List FileNo). searched s.distance risen t.files.rows) risen ∙ laws.enough s.distance s.files t.files.rows in
+    ap (λ (rows : List FileRow). length (near_pairs rows)) (sym same) ∙ sym (ap length paired.paired.near) ∙ counted
+
+-- too many would be near
+pub search_refused : (t : TablesView) (s : Searching) (files : List FileNo) →
+    files ≡ rising s.distance s.files t.files.rows → files ≢ [] →
+    MAX_NEAR < length (near_pairs (searched s.distance s.files t.files.rows)) →
+    IsPrepared (search (records_of t) s) t (prepared.Told (replies.Refused refusals.FullNear))
+search_refused t s [] risen some many = absurd (some refl)
+search_refused t s (file ∷ files) risen some many =
+    let r = records_of t in
+    let o : search r s ≡ refused r refusals.FullNear = search_is r s ∙ ap (search_of r s) (sym risen) ∙ rw (lt-leb _ _ many) refl in (
+      ap (λ (o : Outcome). o.change) o,
+      ap (λ (o : Outcome). o.reply) o,
+      ap (λ (o : Outcome). o.records) o,
     )
 
 -- ---- files that are named

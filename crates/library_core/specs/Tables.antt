@@ -1,5 +1,5 @@
 -- The tables of a library: what they record, what keeps them in step, and what a planned change does to them.
-use Rattle.std.specs.Prelude.{◌≡◌, ◌≢◌, ◌<◌, ◌≤◌, ℕ, Bool, false, List, [], ◌∷◌, ◌++◌, length, map, All, Option, Some, None, slice_get}
+use Rattle.std.specs.Prelude.{◌≡◌, ◌≢◌, ◌<◌, ◌≤◌, ℕ, Bool, true, false, List, [], ◌∷◌, ◌++◌, length, map, All, Option, Some, None, slice_get}
 use Rattle.media_types.specs.declared.decision.Decision.{Decision}
 use Rattle.media_types.specs.declared.hash.Hash64.{Hash64}
 use Rattle.media_types.specs.declared.limits.TheConstants.{MAX_DECISIONS}
@@ -9,7 +9,8 @@ use Rattle.media_base.specs.declared.change.Change.{Change}
 use Rattle.media_base.specs.declared.change.Change.TheVariants as changes
 use Rattle.spare_tables.specs.Table.{Table}
 use Rattle.file_records.specs.Importing.{IsPlannedFor, Planned}
-use Rattle.file_records.specs.Searching.{is_queued, queue_of, searched}
+use Rattle.file_records.specs.Near.{near_pairs}
+use Rattle.file_records.specs.Searching.{deleted, is_queued, queue_of, searched}
 use Rattle.file_records.specs.Words.{new_words, words_of}
 use Rattle.file_records.specs.declared.file_row.FileRow.{FileRow}
 use Rattle.decision_book.specs.declared.decision_row.DecisionRow.{DecisionRow}
@@ -17,7 +18,11 @@ use Rattle.decision_book.specs.Recorded.{Recorded, undone_at}
 use Rattle.decision_book.specs.Standing.{row_of, standing}
 use Rattle.relation_groups.specs.Reading.{Kept, IsPlanFor, relations_after, relations_in, size_of}
 use Rattle.relation_groups.specs.Reading.{Planned as GroupsPlanned}
-use Rattle.relation_groups.specs.Relations.{relations}
+use Rattle.relation_groups.specs.Relations.{Relations, relations}
+use Rattle.potential_pairs.specs.Planning.{PlanView, room_of}
+use Rattle.potential_pairs.specs.Planning.{after as pairs_after}
+use Rattle.potential_pairs.specs.Potential.{AreOf, PairsView}
+use Rattle.potential_pairs.specs.Potential.{Kept as PairsKept}
 use Rattle.vp_tree.specs.declared.node.NodeView.{NodeView}
 use Rattle.vp_tree.specs.declared.plan.InsertPlan.{InsertPlan}
 use Rattle.vp_tree.specs.Nodes.{words_in}
@@ -34,6 +39,7 @@ pub record TablesView : Type 0 where
   pub book : Recorded
   pub groups : Kept
   pub tree : Table NodeView
+  pub pairs : PairsKept
   pub work : Work
   pub distance : ℕ
 
@@ -54,14 +60,23 @@ words_brought r (Some (changes.Undo n)) = []
 words_brought r (Some (changes.Distance d)) = []
 words_brought r (Some (changes.Searched s)) = []
 
+-- the near pairs and the deleted files are those of the rows, and the potential pairs are those that they
+-- make of the groups
+pub record ArePairsOf (R : Relations) (rows : List FileRow) (pairs : PairsView) : Type 0 where
+  pub near : pairs.near ≡ near_pairs rows
+  pub gone : pairs.gone ≡ deleted rows
+  pub of : AreOf R pairs
+
 -- The tables speak of the same files, and the groups are those that the standing decisions make. The tree
--- has the hashes of the files, by number, and the queue has the files that are to be searched.
+-- has the hashes of the files, by number, the pairs are those of the files and groups, and the queue has the
+-- files that are to be searched.
 pub record AreInStep (t : TablesView) : Type 0 where
   pub fits : Fits (records_of t)
   pub decided : t.book.files ≡ length t.files.rows
   pub grouped : size_of t.groups ≡ length t.files.rows
   pub related : relations_in t.groups ≡ relations (standing t.book.rows)
   pub words : HasWords t.tree.rows (records_of t)
+  pub paired : ArePairsOf (relations_in t.groups) t.files.rows t.pairs.rows
   pub queued : t.work.queue ≡ queue_of t.distance t.files.rows
 
 -- the words of planned insertions
@@ -76,28 +91,37 @@ pub record LeadsImport (plan : Planned) (inserts : List InsertPlan) (queued : Bo
   pub group_room : 1 ≤ t.groups.spare
   pub words : words_planned inserts ≡ plan.words
   pub tree_room : length plan.words ≤ t.tree.spare
+  pub unsearched : plan.row.searched ≡ None
+  pub live : plan.row.live ≡ true
   pub told : is_queued t.distance plan.row ≡ queued
   pub queue_room : 1 ≤ t.work.spare
   pub fits : Fits after
   pub leads : after ≡ record (records_of t) { files = t.files.rows ++ plan.row ∷ [] }
 
+-- a planned change of the pairs can be made, and then they are those of these rows and groups
+pub record LeadsPairs (pairs : PlanView) (R : Relations) (rows : List FileRow) (kept : PairsKept) : Type 0 where
+  pub room : room_of pairs ≤ kept.spare
+  pub paired : ArePairsOf R rows (pairs_after pairs kept.rows)
+
 -- So can a planned decision.
-pub record LeadsDecide (d : Decision) (plan : GroupsPlanned) (t : TablesView) (after : Records) : Type 0 where
+pub record LeadsDecide (d : Decision) (plan : GroupsPlanned) (pairs : PlanView) (t : TablesView) (after : Records) : Type 0 where
   pub known : (d.a.0 < length t.files.rows) × (d.b.0 < length t.files.rows)
   pub two : d.a.0 ≢ d.b.0
   pub few : length t.book.rows < MAX_DECISIONS
   pub room : 1 ≤ t.book.spare
   pub planned : IsPlanFor plan t.groups
   pub related : relations_after plan t.groups ≡ relations (standing (t.book.rows ++ row_of d ∷ []))
+  pub paired : LeadsPairs pairs (relations_after plan t.groups) t.files.rows t.pairs
   pub fits : Fits after
   pub leads : after ≡ record (records_of t) { decisions = t.book.rows ++ row_of d ∷ [] }
 
 -- So can a planned undoing.
-pub record LeadsUndo (n : DecisionNo) (plan : GroupsPlanned) (t : TablesView) (after : Records) : Type 0 where
+pub record LeadsUndo (n : DecisionNo) (plan : GroupsPlanned) (pairs : PlanView) (t : TablesView) (after : Records) : Type 0 where
   pub known : n.0 < length t.book.rows
   pub stands : (row : DecisionRow) → slice_get t.book.rows n.0 ≡ Some row → row.undone ≡ false
   pub planned : IsPlanFor plan t.groups
   pub related : relations_after plan t.groups ≡ relations (standing (undone_at n.0 t.book.rows))
+  pub paired : LeadsPairs pairs (relations_after plan t.groups) t.files.rows t.pairs
   pub fits : Fits after
   pub leads : after ≡ record (records_of t) { decisions = undone_at n.0 t.book.rows }
 
@@ -108,26 +132,27 @@ pub record LeadsDistance (d : ℕ) (queue : List FileNo) (t : TablesView) (after
   pub leads : after ≡ record (records_of t) { distance = d }
 
 -- So can a planned search of files.
-pub record LeadsSearch (files : List FileNo) (d : ℕ) (t : TablesView) (after : Records) : Type 0 where
+pub record LeadsSearch (files : List FileNo) (d : ℕ) (pairs : PlanView) (t : TablesView) (after : Records) : Type 0 where
   pub known : All (λ file. file.0 < length t.files.rows) files
+  pub paired : LeadsPairs pairs (relations_in t.groups) (searched d files t.files.rows) t.pairs
   pub fits : Fits after
   pub leads : after ≡ record (records_of t) { files = searched d files t.files.rows }
 
 -- the plan was made of these tables, and leads them to these records
 abbrev pub Leads : TablesPlan → TablesView → Records → Type 0
 Leads (plans.Import plan inserts queued) t after = LeadsImport plan inserts.items queued t after
-Leads (plans.Decide d plan) t after = LeadsDecide d plan t after
-Leads (plans.Undo n plan) t after = LeadsUndo n plan t after
+Leads (plans.Decide d plan pairs) t after = LeadsDecide d plan pairs t after
+Leads (plans.Undo n plan pairs) t after = LeadsUndo n plan pairs t after
 Leads (plans.Distance d queue) t after = LeadsDistance d queue t after
-Leads (plans.Search files d) t after = LeadsSearch files d t after
+Leads (plans.Search files d pairs) t after = LeadsSearch files d pairs t after
 
 -- the words that a plan places in the tree
 abbrev pub words_placed : TablesPlan → List Hash64
 words_placed (plans.Import plan inserts queued) = words_planned inserts.items
-words_placed (plans.Decide d plan) = []
-words_placed (plans.Undo n plan) = []
+words_placed (plans.Decide d plan pairs) = []
+words_placed (plans.Undo n plan pairs) = []
 words_placed (plans.Distance d queue) = []
-words_placed (plans.Search files d) = []
+words_placed (plans.Search files d pairs) = []
 
 -- what was prepared is the outcome, from these tables on
 abbrev pub IsPrepared : Outcome → TablesView → Prepared → Type 0

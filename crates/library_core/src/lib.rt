@@ -6,6 +6,7 @@ mod library;
 mod load;
 mod load_fail;
 mod numbers;
+mod pairing;
 mod plan;
 mod planning;
 mod searching;

@@ -6,6 +6,7 @@ ghost use Rattle.media_base.specs.declared.refusal.Refusal.{Refusal};
 ghost use Rattle.library_machine.specs.Changes.{is_refused, kept_with, opened};
 ghost use Rattle.library_machine.specs.Records.{Fits};
 ghost use Rattle.library_machine.specs.Step as machine;
+ghost use Rattle.library_core.specs.Counting.{IsWithin, most_reads};
 ghost use Rattle.library_core.specs.Keeping.{GrowsBy};
 ghost use Rattle.library_core.specs.Opening.{put_refusal};
 ghost use Rattle.library_core.specs.Tables.{HasWords};
@@ -65,6 +66,9 @@ impl<K: Keeper> Library<K> {
         ensures tree { let r = self.old.records in
             GrowsBy r (machine.step r caller command.now).change result self.old.tree self.new.tree }
         ensures words { HasWords self.new.tree self.new.records }
+
+        // Searches and pages of pairs read no more than this.
+        ensures reads { IsWithin (most_reads self.old.records self.old.tree command.now) steps.old steps.new }
 
         // `journal_full` comes exactly where the records would change and there is no room for the change.
         ensures full { result ≡ Reply.Refused Refusal.JournalFull → (change : ChangeValue)

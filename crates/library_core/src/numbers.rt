@@ -1,5 +1,5 @@
 ghost use Rattle.std.specs.Prelude.{◌≡◌, IfOk};
-ghost use Rattle.relation_groups.specs.Relations.{files};
+ghost use Rattle.media_types.specs.Numbered.{files};
 
 use media_base::{FileList, FileNo, NoMemory};
 use std::alloc::Global;

@@ -1,5 +1,6 @@
 use file_records::ImportPlan;
 use media_base::{Change, Decision, DecisionNo, FileList, Refusal, Reply, SearchDistance};
+use potential_pairs::PairPlan;
 use relation_groups::GroupPlan;
 use tree_upkeep::QueuePlan;
 use vp_tree::InsertPlan;
@@ -16,10 +17,12 @@ pub enum TablesPlan {
     Decide {
         decision: Decision,
         groups: GroupPlan,
+        pairs: PairPlan,
     },
     Undo {
         number: DecisionNo,
         groups: GroupPlan,
+        pairs: PairPlan,
     },
     Distance {
         distance: SearchDistance,
@@ -29,6 +32,7 @@ pub enum TablesPlan {
     Search {
         files: FileList,
         distance: SearchDistance,
+        pairs: PairPlan,
     },
 }
 

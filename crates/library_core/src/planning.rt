@@ -1,6 +1,7 @@
 ghost use Rattle.std.specs.Prelude.{◌≡◌, ◌&&◌, IfOk};
 ghost use Rattle.media_base.specs.declared.command.Caller.TheVariants as callers;
 ghost use Rattle.library_machine.specs.Step as machine;
+ghost use Rattle.library_core.specs.Counting.{IsWithin, most_reads};
 ghost use Rattle.library_core.specs.Tables.{IsPrepared, records_of};
 
 use crate::numbers::all_files;
@@ -41,12 +42,16 @@ impl Tables {
         ensures tree { self.new.tree.rows ≡ self.old.tree.rows }
         ensures prepared { let r = records_of self.old in
             IfOk result (IsPrepared (machine.step r callers.Console command.now) self.new) }
+        ensures reads { IsWithin (most_reads (records_of self.old) self.old.tree.rows command.now)
+            steps.old steps.new }
     {
         match command {
             Command::Import(file) => self.plan_import(file, steps),
             Command::Decide(decision) => self.plan_decide(*decision, steps),
             Command::Undo(number) => self.plan_undo(*number, steps),
             Command::Relations(file) => self.tell_relations(*file),
+            Command::Pairs(page) => self.tell_pairs(*page, steps),
+            Command::PairCount(at_most) => Ok(self.tell_pair_count(*at_most)),
             Command::SearchDistance(distance) => self.plan_distance(*distance, steps),
             Command::SearchJob(size) => self.plan_search_job(*size, steps),
             Command::SearchFiles(searching) => self.plan_search_files(searching, steps),
@@ -118,12 +123,19 @@ impl Tables {
             return Ok(Refusal::FullDecisions.into());
         }
         library_machine::records_stay_fit();
+        file_records::near_laws();
         decision_book::laws();
+        relation_groups::laws();
         self.book.reserve(steps)?;
         let Decision { code, a, b } = decision;
         let groups = self.groups.plan_decide(code, a, b, steps)?;
+        let pairs = self.pairs.plan_moved(&groups, &self.groups, steps)?;
         Ok(Prepared::Change {
-            plan: TablesPlan::Decide { decision, groups },
+            plan: TablesPlan::Decide {
+                decision,
+                groups,
+                pairs,
+            },
             change: Change::Decision(decision),
             reply: Reply::Decided(DecisionNo(count)),
         })
@@ -148,11 +160,17 @@ impl Tables {
         let standing = self.book.standing_without(number, self.alloc)?;
         let files = all_files(self.alloc, self.files.len())?;
         library_machine::records_stay_fit();
+        file_records::near_laws();
         decision_book::laws();
         relation_groups::laws();
         let groups = self.groups.plan_refold(&files, &standing, steps)?;
+        let pairs = self.pairs.plan_moved(&groups, &self.groups, steps)?;
         Ok(Prepared::Change {
-            plan: TablesPlan::Undo { number, groups },
+            plan: TablesPlan::Undo {
+                number,
+                groups,
+                pairs,
+            },
             change: Change::Undo(number),
             reply: Reply::Undone(number),
         })

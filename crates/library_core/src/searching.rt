@@ -1,18 +1,19 @@
 //! Searches of files, and the queue of those that are to be searched.
 
-ghost use Rattle.std.specs.Prelude.{◌≡◌, ◌<◌, not, List, length, filter, All, IfOk};
+ghost use Rattle.std.specs.Prelude.{◌≡◌, ◌<◌, ◌≤◌, ◌+◌, ◌*◌, not, List, length, filter, All, IfOk};
 ghost use Rattle.std.specs.List.{list_any};
 ghost use Rattle.media_types.specs.declared.numbers.FileNo.{FileNo as File};
 ghost use Rattle.file_records.specs.Searching.{is_queued, passes, queue_of, rising, searched};
 ghost use Rattle.library_machine.specs.Step as machine;
+ghost use Rattle.library_core.specs.Counting.{search_meets, search_reads};
 ghost use Rattle.library_core.specs.Tables.{IsPrepared, records_of};
 
 use crate::plan::{Prepared, TablesPlan};
 use crate::tables::Tables;
 use file_records::Files;
 use media_base::{
-    BatchSize, Change, FileBatch, FileNo, NoMemory, QueueLengths, Refusal, Reply, SearchCounts,
-    SearchDistance, Searching, Steps,
+    BatchSize, Change, FileBatch, FileNo, MAX_NEAR, NoMemory, QueueLengths, Refusal, Reply,
+    SearchCounts, SearchDistance, Searching, Steps,
 };
 use std::sync::ledger::Ledger;
 use tree_upkeep::Upkeep;
@@ -51,6 +52,7 @@ impl Tables {
     ) -> Result<Prepared, NoMemory>
         ensures records { records_of self.new ≡ records_of self.old }
         ensures tree { self.new.tree.rows ≡ self.old.tree.rows }
+        ensures reads { steps.new ≤ steps.old + search_reads (records_of self.old) self.old.tree.rows searching.now }
         ensures prepared { IfOk result (IsPrepared (machine.search_files (records_of self.old) searching.now) self.new) }
     {
         if self.lacks_one(searching.files.as_slice()) {
@@ -80,6 +82,8 @@ impl Tables {
     ) -> Result<Prepared, NoMemory>
         ensures records { records_of self.new ≡ records_of self.old }
         ensures tree { self.new.tree.rows ≡ self.old.tree.rows }
+        ensures reads { let r = records_of self.old in
+            steps.new ≤ steps.old + search_reads r self.old.tree.rows (machine.next_search r size) }
         ensures prepared { IfOk result (IsPrepared (machine.search_job (records_of self.old) size) self.new) }
     {
         file_records::search_laws();
@@ -101,9 +105,9 @@ impl Tables {
         requires known { All (λ file. file.0 < length self.old.files.rows) searching.files }
         ensures records { records_of self.new ≡ records_of self.old }
         ensures tree { self.new.tree.rows ≡ self.old.tree.rows }
+        ensures reads { steps.new ≤ steps.old + 16 * search_meets (records_of self.old) self.old.tree.rows searching }
         ensures prepared { IfOk result (IsPrepared (machine.search (records_of self.old) searching) self.new) }
     {
-        library_machine::records_stay_fit();
         file_records::search_laws();
         let distance = searching.distance;
         let named = searching.files.as_slice();
@@ -113,8 +117,16 @@ impl Tables {
         if files.is_empty() {
             return Ok(Prepared::Told(reply));
         }
+        let pairs = self.plan_near(files.as_slice(), distance, steps)?;
+        if pairs.near_len() > MAX_NEAR - self.pairs.near_len() {
+            return Ok(Refusal::FullNear.into());
+        }
         Ok(Prepared::Change {
-            plan: TablesPlan::Search { files, distance },
+            plan: TablesPlan::Search {
+                files,
+                distance,
+                pairs,
+            },
             change: Change::Searched(searching),
             reply,
         })
@@ -129,8 +141,9 @@ impl Tables {
     ) -> u64
         requires known { All (λ file. file.0 < length self.now.files.rows) risen.now }
         requires risen { (named : List File) × (risen.now ≡ rising distance named self.now.files.rows) }
-        ensures { (named : List File) → risen.now ≡ rising distance named self.now.files.rows
+        ensures left { (named : List File) → risen.now ≡ rising distance named self.now.files.rows
             → result ≡ length (queue_of self.now.distance (searched distance named self.now.files.rows)) }
+        ensures reads { steps.new ≤ steps.old + length risen.now }
     {
         file_records::search_laws();
         let waiting = self.upkeep.queue_len();
@@ -143,8 +156,9 @@ impl Tables {
     // How many of these files wait to be searched.
     fn count_queued<L: Ledger>(&self, files: &[FileNo], steps: &mut Steps<L>) -> u64
         requires { All (λ file. file.0 < length self.now.files.rows) files.now }
-        ensures { result ≡ length (filter
+        ensures count { result ≡ length (filter
             (λ file. passes (is_queued self.now.distance) self.now.files.rows file.0) files.now) }
+        ensures reads { steps.new ≡ steps.old + length files.now }
     {
         let mut count = 0;
         for file in files {

@@ -10,6 +10,7 @@ use crate::words::place_words;
 use decision_book::Book;
 use file_records::{Files, ImportPlan};
 use media_base::{Decision, FileList, HashNo, NoMemory, SearchDistance, Steps};
+use potential_pairs::{PairPlan, Pairs};
 use relation_groups::Groups;
 use std::alloc::Global;
 use std::marker::Model;
@@ -18,7 +19,9 @@ use tree_upkeep::Upkeep;
 use vp_tree::{InsertPlan, Tree};
 
 /// The tables of a library: its files, its decisions, the groups that the standing decisions make of the
-/// files, the tree of their hashes, and the queue of those that are to be searched. A change is planned first, which takes all memory, and then it can't be refused.
+/// files, the tree of their hashes, their near pairs with the potential pairs of groups, and the queue of
+/// those that are to be searched. A change is planned first, which takes all memory, and then it can't be
+/// refused.
 #[derive(Drop)]
 pub struct Tables {
     pub(crate) alloc: Global,
@@ -27,6 +30,8 @@ pub struct Tables {
     pub(crate) groups: Groups,
     /// The distinct hashes of the files.
     pub(crate) tree: Tree,
+    /// The near pairs of the files, and the potential pairs that they make of the groups.
+    pub(crate) pairs: Pairs,
     /// The files that are to be searched.
     pub(crate) upkeep: Upkeep,
     /// Within which files are searched.
@@ -43,6 +48,7 @@ impl Model for Tables {
       book = t.book;
       groups = t.groups;
       tree = t.tree;
+      pairs = t.pairs;
       work = t.upkeep;
       distance = t.distance;
     } };
@@ -52,6 +58,7 @@ impl Model for Tables {
       book = t.book;
       groups = t.groups;
       tree = t.tree;
+      pairs = t.pairs;
       work = t.upkeep;
       distance = t.distance;
     }) };
@@ -70,6 +77,7 @@ impl Tables {
             book: Book::new(alloc),
             groups: Groups::new(alloc),
             tree: Tree::new(alloc),
+            pairs: Pairs::new(alloc),
             upkeep: Upkeep::new(alloc),
             distance: SearchDistance::first(),
         }
@@ -81,6 +89,7 @@ impl Tables {
         ensures records { (after : Records) → Leads plan self.old after → records_of self.new ≡ after }
         ensures tree { ArePlaced self.old.tree.rows (words_placed plan) self.new.tree.rows }
         ensures words { HasWords self.new.tree.rows (records_of self.new) }
+        ensures steps { words_placed plan ≡ [] → steps.new ≡ steps.old }
     {
         match plan {
             TablesPlan::Import {
@@ -88,20 +97,34 @@ impl Tables {
                 words,
                 queued,
             } => self.commit_import(file, words, queued, steps),
-            TablesPlan::Decide { decision, groups } => {
+            TablesPlan::Decide {
+                decision,
+                groups,
+                pairs,
+            } => {
                 let Decision { code, a, b } = decision;
                 let _number = self.book.add(code, a, b);
                 self.groups.commit(groups);
+                self.pairs.commit(pairs);
             }
-            TablesPlan::Undo { number, groups } => {
+            TablesPlan::Undo {
+                number,
+                groups,
+                pairs,
+            } => {
                 self.book.undo(number);
                 self.groups.commit(groups);
+                self.pairs.commit(pairs);
             }
             TablesPlan::Distance { distance, queue } => {
                 self.upkeep.commit_queue(queue);
                 self.distance = distance;
             }
-            TablesPlan::Search { files, distance } => self.commit_search(&files, distance),
+            TablesPlan::Search {
+                files,
+                distance,
+                pairs,
+            } => self.commit_search(&files, distance, pairs),
         }
     }
 
@@ -117,8 +140,10 @@ impl Tables {
             → records_of self.new ≡ after }
         ensures tree { ArePlaced self.old.tree.rows (words_planned words.items) self.new.tree.rows }
         ensures words { HasWords self.new.tree.rows (records_of self.new) }
+        ensures steps { words_planned words.items ≡ [] → steps.new ≡ steps.old }
     {
         file_records::search_laws();
+        file_records::near_laws();
         tree_upkeep::laws();
         let number = self.files.commit_import(file);
         self.book.add_file();
@@ -127,17 +152,18 @@ impl Tables {
         self.upkeep.note(number, queued);
     }
 
-    fn commit_search(&mut self, found: &FileList, distance: SearchDistance)
-        requires { (after : Records) × LeadsSearch found.now distance self.old after }
-        ensures records { (after : Records) → LeadsSearch found.now distance self.old after
+    fn commit_search(&mut self, risen: &FileList, distance: SearchDistance, pairs: PairPlan)
+        requires { (after : Records) × LeadsSearch risen.now distance pairs self.old after }
+        ensures records { (after : Records) → LeadsSearch risen.now distance pairs self.old after
             → records_of self.new ≡ after }
         ensures tree { self.new.tree.rows ≡ self.old.tree.rows }
         ensures words { HasWords self.new.tree.rows (records_of self.new) }
     {
         file_records::search_laws();
         let library = self.distance;
-        let found = found.as_slice();
-        note_searched(&mut self.files, &mut self.upkeep, found, distance, library);
+        let risen = risen.as_slice();
+        note_searched(&mut self.files, &mut self.upkeep, risen, distance, library);
+        self.pairs.commit(pairs);
     }
 
     /// Gives a planned change up.

@@ -1,6 +1,6 @@
 //! The words of a file that is imported, in the tree.
 
-ghost use Rattle.std.specs.Prelude.{◌≡◌, ◌≤◌, ◌+◌, ◌++◌, length, IfOk, OnOk};
+ghost use Rattle.std.specs.Prelude.{◌≡◌, ◌≤◌, ◌+◌, ◌++◌, [], length, IfOk, OnOk};
 ghost use Rattle.media_types.specs.declared.limits.TheConstants.{MAX_HASHES, MAX_WORDS};
 ghost use Rattle.file_records.specs.Words.{AreDistinctWords};
 ghost use Rattle.vp_tree.specs.Nodes.{words_in};
@@ -39,6 +39,7 @@ pub fn place_words<L: Ledger>(tree: &mut Tree, plans: Vec<InsertPlan>, steps: &m
     requires room { length plans.items ≤ tree.old.spare }
     ensures placed { ArePlaced tree.old.rows (words_planned plans.items) tree.new.rows }
     ensures words { words_in tree.new.rows ≡ words_in tree.old.rows ++ words_planned plans.items }
+    ensures steps { words_planned plans.items ≡ [] → steps.new ≡ steps.old }
 {
     vp_tree::placing_laws();
     for plan in plans {

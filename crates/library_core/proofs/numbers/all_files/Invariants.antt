@@ -1,5 +1,5 @@
 use Rattle.std.proofs.Common.{◌≡◌}
-use Rattle.relation_groups.specs.Relations.{files}
+use Rattle.media_types.specs.Numbered.{files}
 use Rattle.library_core.proofs.numbers.all_files.Given as goal
 
 abbrev pub invariant-loop-number : goal.invariant-loop-number

@@ -1,5 +1,5 @@
-use Rattle.std.proofs.Common.{◌≡◌, ◌++◌, List, [], ◌∷◌, length, append_assoc, arith, ap, sym, ◌∙◌, subst}
-use Rattle.std.proofs.lemmas.List.{map-append, append-nil}
+use Rattle.std.proofs.Common.{◌≡◌, ◌++◌, List, [], ◌∷◌, length, append_assoc, length-append, refl, arith, ap, sym, ◌∙◌, subst}
+use Rattle.std.proofs.lemmas.List.{map-append, append-nil, length-map}
 use Rattle.media_types.specs.declared.hash.Hash64.{Hash64}
 use Rattle.vp_tree.specs.declared.plan.InsertPlan.{InsertPlan}
 use Rattle.vp_tree.specs.Nodes.{words_in}
@@ -15,6 +15,7 @@ loop-plan-init g c =
       parts = all;
       placed = c.placing_laws.ensures.none c.args.tree.now.rows;
       words = sym (append-nil (words_in c.args.tree.now.rows));
+      steps = λ none. refl;
       room = rw all c.requires.room;
     }
 
@@ -38,6 +39,9 @@ loop-plan-preserved g c =
           c.commit_insert-marked.ensures.words ∙ ap (λ (words : List Hash64). words ++ c.in-Some.plan.word ∷ []) l.invariant.words
           ∙ append_assoc (words_in c.args.tree.now.rows) (words_planned l.yielded) (c.in-Some.plan.word ∷ [])
           ∙ ap (λ (words : List Hash64). words_in c.args.tree.now.rows ++ words) (sym snoc);
+      steps = λ none.
+          let parts = ap (λ (rest : List InsertPlan). length (l.yielded ++ rest)) (sym c.in-Some.ensures.steps.0) ∙ ap length l.invariant.parts in
+          absurd (omega (arith, ap length none, parts, length-append l.yielded (c.in-Some.plan ∷ c.next.new.self.rest.items), length-map c.args.plans.items (λ (plan : InsertPlan). plan.word)));
       room = omega (arith, c.commit_insert-marked.ensures.spare, l.invariant.room, ap length c.in-Some.ensures.steps.0);
     }
 

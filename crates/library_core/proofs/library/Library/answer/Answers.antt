@@ -7,8 +7,10 @@ use Rattle.library_machine.specs.Records.{Fits, Records}
 use Rattle.library_machine.specs.Step.{step}
 use Rattle.vp_tree.specs.declared.node.NodeView.{NodeView}
 use Rattle.vp_tree.specs.Placing.{ArePlaced}
+use Rattle.library_core.specs.Counting.{IsWithin, most_reads}
 use Rattle.library_core.specs.Keeping.{GrowsBy, LibraryView}
 use Rattle.library_core.specs.Tables.{records_of, words_brought, words_placed}
+use Rattle.library_core.proofs.Bounded.{bounded_brings, within_still}
 use Rattle.library_core.proofs.Opened.{opens_more}
 use Rattle.library_core.proofs.Growing.{grows, the_console}
 use Rattle.library_core.proofs.library.Library.answer.Goals as goal
@@ -59,3 +61,16 @@ returns-in-Ok-clause-tree g c =
     subst (λ (caller : Caller). GrowsBy c.args.self.now.records (step c.args.self.now.records caller command).change reply c.args.self.now.tree c.commit.new.self.tree.rows) (the_console c.args.caller)
     (subst (λ (l : LibraryView g.row.K.Denot). GrowsBy l.records (step l.records Console command).change reply l.tree c.commit.new.self.tree.rows) c.self.view_is
     (grows c.refusals_change_nothing.ensures.in_a_step c.changes_are_kept.ensures.told r command change reply _ _ _ prepared.0 prepared.1 brought placed))
+
+-- what is read is within the bound, also once the plan is carried out
+pub returns-in-Ok-clause-reads : goal.returns-in-Ok-clause-reads
+returns-in-Ok-clause-reads g c =
+    let r = records_of c.self.inside.tables in
+    let tree = c.self.inside.tables.tree.rows in
+    let command = c.args.command.now in
+    let change = c.in-Ok-Change.change in
+    let prepared = rw c.in-Ok-Change.field-0-is at c.in-Ok-Change.ensures.prepared in
+    let placed : words_placed c.in-Ok-Change.plan ≡ words_brought r (Some change) = prepared.3 ∙ ap (λ (r : Records). words_brought r (Some change)) c.plan.ensures.records in
+    let within = within_still (most_reads r tree command) _ _ _ c.plan.ensures.reads
+    (λ n is. c.commit.ensures.steps (placed ∙ bounded_brings r tree command n is change prepared.0)) in
+    subst (λ (l : LibraryView g.row.K.Denot). IsWithin (most_reads l.records l.tree command) c.args.steps.now c.commit.new.steps) c.self.view_is within

@@ -7,8 +7,8 @@ use Rattle.library_core.proofs.tables.Tables.commit_search.Goals as goal
 
 pub invariant_of-self : goal.invariant_of-self
 invariant_of-self c =
-    let here = subst (λ (t : TablesView). LeadsSearch c.args.found.now c.args.distance t c.requires.0) (sym c.self.view_is) c.requires.1 in
-    search_in_step _ c.args.found.now c.args.distance c.requires.0 c.self.invariant here
-    c.search_laws.ensures.same_length c.search_laws.ensures.words c.note_searched.new.files c.note_searched.new.upkeep
-    (c.note_searched.ensures.rows ∙ ap (λ (found : List FileNo). searched c.args.distance found c.self.inside.files.rows) c.as_slice-found.ensures)
-    c.note_searched.ensures.queued
+    let here = subst (λ (t : TablesView). LeadsSearch c.args.risen.now c.args.distance c.args.pairs t c.requires.0) (sym c.self.view_is) c.requires.1 in
+    search_in_step _ c.args.risen.now c.args.distance c.args.pairs c.requires.0 c.self.invariant here
+    c.search_laws.ensures.same_length c.search_laws.ensures.words c.note_searched.new.files c.note_searched.new.upkeep c.commit.new.self
+    (c.note_searched.ensures.rows ∙ ap (λ (risen : List FileNo). searched c.args.distance risen c.self.inside.files.rows) c.as_slice-risen.ensures)
+    c.note_searched.ensures.queued c.commit.ensures

@@ -1,5 +1,7 @@
-use Rattle.std.proofs.Common.{refl, sym}
-use Rattle.library_core.proofs.Committing.{no_words, no_queue}
+use Rattle.std.proofs.Common.{refl, ap, sym, ◌∙◌}
+use Rattle.file_records.specs.Near.{near_pairs}
+use Rattle.file_records.specs.Searching.{deleted}
+use Rattle.library_core.proofs.Committing.{no_near, no_words, no_queue}
 use Rattle.library_core.proofs.tables.Tables.new.Goals as goal
 
 pub invariant_of-result : goal.invariant_of-result
@@ -9,5 +11,10 @@ invariant_of-result c = record {
   grouped = rw (c.new.ensures.rows, c.new-3.ensures.size) refl;
   related = rw (c.new-2.ensures.rows, c.new-3.ensures.relations) refl;
   words = rw (c.new.ensures.rows, c.new-4.ensures) (sym no_words);
-  queued = rw (c.new.ensures.rows, c.new-5.ensures.queue) (sym (no_queue c.first.result));
+  paired = record {
+    near = c.new-5.ensures.near ∙ sym (ap near_pairs c.new.ensures.rows ∙ no_near);
+    gone = c.new-5.ensures.gone ∙ sym (ap deleted c.new.ensures.rows);
+    of = c.new-5.ensures.of _;
+  };
+  queued = rw (c.new.ensures.rows, c.new-6.ensures.queue) (sym (no_queue c.first.result));
 }

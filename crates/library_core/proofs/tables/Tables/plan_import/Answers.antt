@@ -27,7 +27,7 @@ plan_words-requires-clause-few_words g c =
 pub returns-clause-prepared : goal.returns-clause-prepared
 returns-clause-prepared g c =
     let file = c.args.file.now in
-    let new : TablesView = record { files = c.plan_import.new.self; book = c.reserve.new.self; groups = c.reserve_file.new.self; tree = c.plan_words.new.tree; work = c.reserve-2.new.self; distance = c.self.inside.distance } in
+    let new : TablesView = record { files = c.plan_import.new.self; book = c.reserve.new.self; groups = c.reserve_file.new.self; tree = c.plan_words.new.tree; pairs = c.self.inside.pairs; work = c.reserve-2.new.self; distance = c.self.inside.distance } in
     let reply = replies.Imported (record { file = record { 0 = c.len-count.result }; status = imports.New }) in
     let done = prepared.Change (plans.Import c.in_ok-file.file c.in_ok-words.words (not c.is_empty-queued.result)) (changes.File c.in_ok-copied.field-0) reply in
     subst (λ (t : TablesView). IsPrepared (import (records_of t) file) new done) c.self.view_is

@@ -22,14 +22,14 @@ overflow_sub-result g c =
     let t = c.self.inside in
     let named = c.requires.risen.0 in
     let left = c.search_laws.ensures.queue_left c.args.distance t.distance named t.files.rows (omega (arith, c.if-bits.false, c.bits.ensures.value, c.bits-2.ensures.value)) in
-    let after = leaving t.distance c.args.distance t.files.rows named c.args.risen.now c.count_queued.result _ t.upkeep.queue left (subst (λ (t : TablesView). c.count_queued.result ≡ length (filter (λ file. passes (is_queued t.distance) t.files.rows file.0) c.args.risen.now)) (sym c.self.view_is) c.count_queued.ensures)
+    let after = leaving t.distance c.args.distance t.files.rows named c.args.risen.now c.count_queued.result _ t.upkeep.queue left (subst (λ (t : TablesView). c.count_queued.result ≡ length (filter (λ file. passes (is_queued t.distance) t.files.rows file.0) c.args.risen.now)) (sym c.self.view_is) c.count_queued.ensures.count)
     (subst (λ (t : TablesView). c.args.risen.now ≡ rising c.args.distance named t.files.rows) (sym c.self.view_is) c.requires.risen.1) c.queue_len-waiting.ensures.files c.self.invariant.queued in
     omega (arith, after)
 
-pub returns : goal.returns
-returns g c = λ named is.
+pub returns-clause-left : goal.returns-clause-left
+returns-clause-left g c = λ named is.
     let t = c.self.inside in
     let left = c.search_laws.ensures.queue_left c.args.distance t.distance named t.files.rows (omega (arith, c.if-bits.false, c.bits.ensures.value, c.bits-2.ensures.value)) in
-    let after = leaving t.distance c.args.distance t.files.rows named c.args.risen.now c.count_queued.result _ t.upkeep.queue left (subst (λ (t : TablesView). c.count_queued.result ≡ length (filter (λ file. passes (is_queued t.distance) t.files.rows file.0) c.args.risen.now)) (sym c.self.view_is) c.count_queued.ensures)
+    let after = leaving t.distance c.args.distance t.files.rows named c.args.risen.now c.count_queued.result _ t.upkeep.queue left (subst (λ (t : TablesView). c.count_queued.result ≡ length (filter (λ file. passes (is_queued t.distance) t.files.rows file.0) c.args.risen.now)) (sym c.self.view_is) c.count_queued.ensures.count)
     (subst (λ (t : TablesView). c.args.risen.now ≡ rising c.args.distance named t.files.rows) (sym c.self.view_is) is) c.queue_len-waiting.ensures.files c.self.invariant.queued in
     subst (λ (t : TablesView). c.queue_len-waiting.result - c.count_queued.result ≡ length (queue_of t.distance (searched c.args.distance named t.files.rows))) c.self.view_is (omega (arith, after))
