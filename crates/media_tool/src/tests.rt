@@ -3,6 +3,7 @@ mod decisions;
 mod folds;
 mod keepers;
 mod lines;
+mod near_files;
 mod plain_fold;
 mod playing;
 mod rows;

@@ -43,6 +43,10 @@ pub enum Line {
     Decide(Code, u32, u32),
     Undo(u32),
     Relations(u32),
+    /// The search of one file within a distance.
+    Search(u32, u8),
+    /// The potential pairs within 16 after a pair, at most so many.
+    Page(Option<(u32, u32)>, u32),
     Text(&'static str),
 }
 
@@ -68,6 +72,15 @@ impl Line {
                 writeln!(input, "{{\"do\":\"undo\",\"decision\":{decision}}}")
             }
             Line::Relations(file) => { writeln!(input, "{{\"do\":\"relations\",\"file\":{file}}}") }
+            Line::Search(file, distance) => writeln!(
+                input,
+                "{{\"do\":\"search_files\",\"files\":[{file}],\"distance\":{distance}}}"
+            ),
+            Line::Page(None, n) => writeln!(input, "{{\"do\":\"pairs\",\"n\":{n},\"at_most\":16}}"),
+            Line::Page(Some((j, k)), n) => writeln!(
+                input,
+                "{{\"do\":\"pairs\",\"after_j\":{j},\"after_k\":{k},\"n\":{n},\"at_most\":16}}"
+            ),
             Line::Text(text) => input.push_str(text),
         }
     }

@@ -1,7 +1,9 @@
 //! Worked sessions: each line with its reply.
 
 use crate::tests::lines::Code::{Alternates, Better, NotRelated, Same, Worse};
-use crate::tests::lines::Line::{self, Decide, Hashed, Import, Relations, Text, Undo};
+use crate::tests::lines::Line::{
+    self, Decide, Hashed, Import, Page, Relations, Search, Text, Undo,
+};
 use crate::tests::playing::Manner;
 use crate::tests::scripts::Script;
 use std::test::Fail;
@@ -20,6 +22,10 @@ const DECISION_1: &str = r#"{"decision":1}"#;
 const DECISION_2: &str = r#"{"decision":2}"#;
 
 const QUEUES: &str = "{\"do\":\"queues\"}\n";
+
+const JOB_OF_ONE: &str = "{\"do\":\"search_job\",\"n\":1}\n";
+
+const JOB_OF_THREE: &str = "{\"do\":\"search_job\",\"n\":3}\n";
 
 const UNKNOWN_FILE: &str = r#"{"error":"unknown_file"}"#;
 
@@ -248,6 +254,127 @@ const SEARCHES: [Case; 2] = [
     },
 ];
 
+// Files with hashes, searched, and the potential pairs of their groups.
+const PAIRS: [Case; 6] = [
+    Case {
+        shows: "distances eight and nine",
+        files: 0,
+        rows: &[
+            (Hashed(0, 0), r#"{"file":0,"status":1}"#),
+            (Hashed(1, 0xff), r#"{"file":1,"status":1}"#),
+            (Hashed(2, 0x1ff), r#"{"file":2,"status":1}"#),
+            (Text(JOB_OF_THREE), r#"{"searched":3,"left":0}"#),
+            (Page(None, 10), r#"{"pairs":[[0,1,8],[1,2,1]]}"#),
+            (
+                Text("{\"do\":\"search_distance\",\"distance\":9}\n"),
+                r#"{"distance":9}"#,
+            ),
+            (Text(QUEUES), r#"{"search":3,"display":0}"#),
+            (Text(JOB_OF_THREE), r#"{"searched":3,"left":0}"#),
+            (Page(None, 10), r#"{"pairs":[[0,1,8],[0,2,9],[1,2,1]]}"#),
+            (Page(Some((0, 1)), 1), r#"{"pairs":[[0,2,9]]}"#),
+            (
+                Text("{\"do\":\"pair_count\",\"at_most\":8}\n"),
+                r#"{"count":2}"#,
+            ),
+        ],
+    },
+    Case {
+        shows: "both must be searched",
+        files: 0,
+        rows: &[
+            (Hashed(0, 0xaa), r#"{"file":0,"status":1}"#),
+            (Hashed(1, 0xaa), r#"{"file":1,"status":1}"#),
+            (Text(JOB_OF_ONE), r#"{"searched":1,"left":1}"#),
+            (Page(None, 10), r#"{"pairs":[]}"#),
+            (Text(JOB_OF_ONE), r#"{"searched":1,"left":0}"#),
+            (Page(None, 10), r#"{"pairs":[[0,1,0]]}"#),
+            (Text(JOB_OF_ONE), r#"{"searched":0,"left":0}"#),
+        ],
+    },
+    Case {
+        shows: "far words",
+        files: 0,
+        rows: &[
+            (Hashed(0, 0), r#"{"file":0,"status":1}"#),
+            (Hashed(1, u64::MAX), r#"{"file":1,"status":1}"#),
+            (
+                Text("{\"do\":\"search_distance\",\"distance\":16}\n"),
+                r#"{"distance":16}"#,
+            ),
+            (
+                Text("{\"do\":\"search_job\",\"n\":2}\n"),
+                r#"{"searched":2,"left":0}"#,
+            ),
+            (Page(None, 10), r#"{"pairs":[]}"#),
+        ],
+    },
+    Case {
+        shows: "a pair of groups has their least distance, and goes where they join",
+        files: 0,
+        rows: &[
+            (Hashed(0, 0), r#"{"file":0,"status":1}"#),
+            (Hashed(1, 0x7), r#"{"file":1,"status":1}"#),
+            (Hashed(2, 0xf), r#"{"file":2,"status":1}"#),
+            (Text(JOB_OF_THREE), r#"{"searched":3,"left":0}"#),
+            (Page(None, 10), r#"{"pairs":[[0,1,3],[0,2,4],[1,2,1]]}"#),
+            (Decide(Better, 0, 1), DECISION_0),
+            (Page(None, 10), r#"{"pairs":[[0,2,1]]}"#),
+            (Decide(Worse, 0, 2), DECISION_1),
+            (Page(None, 10), r#"{"pairs":[]}"#),
+            (Undo(0), r#"{"undone":0}"#),
+            (Page(None, 10), r#"{"pairs":[[1,2,1]]}"#),
+            (Undo(1), r#"{"undone":1}"#),
+            (Page(None, 10), r#"{"pairs":[[0,1,3],[0,2,4],[1,2,1]]}"#),
+        ],
+    },
+    Case {
+        shows: "alternates and unrelated files are no pair",
+        files: 0,
+        rows: &[
+            (Hashed(0, 0), r#"{"file":0,"status":1}"#),
+            (Hashed(1, 0x7), r#"{"file":1,"status":1}"#),
+            (Hashed(2, 0xf), r#"{"file":2,"status":1}"#),
+            (Search(2, 4), r#"{"searched":1,"left":3}"#),
+            (Text(JOB_OF_THREE), r#"{"searched":3,"left":0}"#),
+            (Decide(NotRelated, 0, 1), DECISION_0),
+            (Page(None, 10), r#"{"pairs":[[0,2,4],[1,2,1]]}"#),
+            (Decide(Alternates, 1, 2), DECISION_1),
+            (Page(None, 10), r#"{"pairs":[]}"#),
+            (Undo(0), r#"{"undone":0}"#),
+            (Page(None, 10), r#"{"pairs":[[0,1,3],[0,2,4]]}"#),
+        ],
+    },
+    Case {
+        shows: "questions of pairs that are refused",
+        files: 0,
+        rows: &[
+            (Page(Some((7, 3)), 1024), r#"{"pairs":[]}"#),
+            (Page(None, 0), r#"{"error":"bad_number"}"#),
+            (
+                Text("{\"do\":\"pairs\",\"n\":0,\"at_most\":17}\n"),
+                r#"{"error":"bad_distance"}"#,
+            ),
+            (
+                Text("{\"do\":\"pairs\",\"after_k\":1,\"n\":1,\"at_most\":1}\n"),
+                r#"{"error":"not_a_request","field":"after_j"}"#,
+            ),
+            (
+                Text("{\"do\":\"pairs\",\"after_j\":1,\"n\":1,\"at_most\":1}\n"),
+                r#"{"error":"not_a_request","field":"after_k"}"#,
+            ),
+            (
+                Text("{\"do\":\"pair_count\",\"at_most\":17}\n"),
+                r#"{"error":"bad_distance"}"#,
+            ),
+            (
+                Text("{\"do\":\"pair_count\",\"at_most\":16}\n"),
+                r#"{"count":0}"#,
+            ),
+        ],
+    },
+];
+
 #[test]
 fn sessions_are_answered(rt: HostRuntime) -> Result<(), Fail> {
     for case in DUPLICATES
@@ -255,6 +382,7 @@ fn sessions_are_answered(rt: HostRuntime) -> Result<(), Fail> {
         .chain(&UNDOINGS)
         .chain(&OTHERS)
         .chain(&SEARCHES)
+        .chain(&PAIRS)
     {
         let mut script = Script::with_files(rt.alloc(), case.files)?;
         for (line, reply) in case.rows {

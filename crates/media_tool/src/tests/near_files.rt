@@ -1,0 +1,200 @@
+//! Sessions of many near files against a plain filter over all pairs of them.
+
+ghost use Rattle.std.specs.Prelude.{◌<◌};
+ghost use Rattle.media_tool.specs.declared.tests.near_files.TheConstants.{FILES};
+
+use crate::tests::chance::Chance;
+use crate::tests::lines::Line;
+use crate::tests::playing::Manner;
+use crate::tests::scripts::Script;
+use std::alloc::{AllocError, Global};
+use std::process::Abort;
+use std::test::Fail;
+use std::thread::Threads;
+
+const FILES: u32 = 300;
+
+const PAGE: usize = 1_000;
+
+/// A file of a session, which is alone in its group.
+#[derive(Clone, Copy)]
+struct Known {
+    word: u64,
+    /// Within which distance it was searched.
+    reach: Option<u8>,
+}
+
+impl Known {
+    // The distance of two files, where both were searched within it or farther.
+    fn near(&self, other: &Known) -> Option<u32> {
+        let distance = (self.word ^ other.word).count_ones();
+        let reach = u32::from(self.reach?.min(other.reach?));
+        (distance <= reach).then_some(distance)
+    }
+
+    // Whether it waits to be searched within 8.
+    fn waits(&self) -> bool {
+        match self.reach {
+            Some(reach) => reach < 8,
+            None => true,
+        }
+    }
+}
+
+// Words that are one of eight with up to nine of its bits turned.
+fn known_files(alloc: Global) -> Result<Vec<Known>, AllocError> {
+    let mut chance = Chance::new(300);
+    let mut files = Vec::with_capacity(alloc, FILES as usize)?;
+    for file in 0..FILES {
+        let mut word = u64::from(file % 8).wrapping_mul(0x9e37_79b9_7f4a_7c15);
+        for _turn in 0..chance.below(10) {
+            word ^= 1 << chance.below(64);
+        }
+        files.push(Known { word, reach: None })?;
+    }
+    Ok(files)
+}
+
+// The near pairs of a file and those behind it.
+fn add_pairs(
+    pairs: &mut Vec<(u32, u32, u32)>,
+    number: u32,
+    file: &Known,
+    files: &[Known],
+) -> Result<(), AllocError> {
+    for (other, known) in (0..FILES).zip(files) {
+        if number < other
+            && let Some(distance) = file.near(known)
+        {
+            pairs.push((number, other, distance))?;
+        }
+    }
+    Ok(())
+}
+
+// The near pairs of all files, in order.
+fn near_pairs(alloc: Global, files: &[Known]) -> Result<Vec<(u32, u32, u32)>, AllocError> {
+    let mut pairs = Vec::new(alloc);
+    for (number, file) in (0..FILES).zip(files) {
+        add_pairs(&mut pairs, number, file, files)?;
+    }
+    Ok(pairs)
+}
+
+fn reply_of(alloc: Global, page: &[(u32, u32, u32)]) -> Result<String, AllocError> {
+    let mut reply = String::from_str(alloc, "{\"pairs\":[")?;
+    let mut between = "";
+    for (j, k, distance) in page {
+        write!(reply, "{between}[{j},{k},{distance}]")?;
+        between = ",";
+    }
+    reply.push_str("]}")?;
+    Ok(reply)
+}
+
+// Asks for all pairs, page by page, until none is left.
+fn ask_for_pairs(alloc: Global, script: &mut Script, files: &[Known]) -> Result<(), AllocError> {
+    let pairs = near_pairs(alloc, files)?;
+    let mut place = None;
+    for page in pairs.chunks(PAGE) {
+        script.say(Line::Page(place, PAGE as u32), &reply_of(alloc, page)?)?;
+        place = page.last().map(|(j, k, _)| (*j, *k));
+    }
+    script.say(Line::Page(place, PAGE as u32), "{\"pairs\":[]}")
+}
+
+/// In which order the files are searched.
+#[derive(Clone, Copy, Debug)]
+enum Order {
+    Ascending,
+    Descending,
+    /// Each seventh, round and round.
+    Strided,
+}
+
+impl Order {
+    fn file(self, turn: u32) -> u32
+        requires { turn < FILES }
+        ensures { result < FILES }
+    {
+        match self {
+            Order::Ascending => turn,
+            Order::Descending => FILES - 1 - turn,
+            Order::Strided => turn * 7 % FILES,
+        }
+    }
+}
+
+// A session that imports these files.
+fn imported(alloc: Global, files: &[Known]) -> Result<Script, AllocError> {
+    let mut script = Script::with_files(alloc, 0)?;
+    for (number, file) in (0..FILES).zip(files) {
+        let reply = format!(in alloc; "{{\"file\":{number},\"status\":1}}")?;
+        script.say(Line::Hashed(number, file.word), &reply)?;
+    }
+    Ok(script)
+}
+
+// Searches a file.
+fn search(
+    alloc: Global,
+    script: &mut Script,
+    files: &mut [Known],
+    number: u32,
+    reach: u8,
+) -> Result<(), AllocError> {
+    if let Some(file) = files.get_mut(number as usize) {
+        file.reach = Some(reach);
+    }
+    let left = files.iter().filter(|file| file.waits()).count();
+    let reply = format!(in alloc; "{{\"searched\":1,\"left\":{left}}}")?;
+    script.say(Line::Search(number, reach), &reply)
+}
+
+// Searches all files within the distance, and every third one within 3 more. The pairs are asked for once
+// half of the files are searched, and at the end.
+fn assert_searched(
+    rt: &(impl Threads + Abort),
+    alloc: Global,
+    order: Order,
+    distance: u8,
+) -> Result<(), Fail> {
+    let mut files = known_files(alloc)?;
+    let mut script = imported(alloc, &files)?;
+    for turn in 0..FILES {
+        let number = order.file(turn);
+        let more = if number % 3 == 0 { 3 } else { 0 };
+        let reach = distance.saturating_add(more);
+        search(alloc, &mut script, &mut files, number, reach)?;
+        if turn == FILES / 2 {
+            ask_for_pairs(alloc, &mut script, &files)?;
+        }
+    }
+    ask_for_pairs(alloc, &mut script, &files)?;
+    let shows = format!(in alloc; "{order:?} within {distance}")?;
+    script.assert_answered(rt, Manner::PLAIN, &shows)
+}
+
+#[test]
+fn files_searched_as_they_came_pair_as_a_filter_says(rt: HostRuntime) -> Result<(), Fail> {
+    for distance in [4, 8, 13] {
+        assert_searched(&rt, rt.alloc(), Order::Ascending, distance)?;
+    }
+    Ok(())
+}
+
+#[test]
+fn files_searched_backwards_pair_as_a_filter_says(rt: HostRuntime) -> Result<(), Fail> {
+    for distance in [4, 8, 13] {
+        assert_searched(&rt, rt.alloc(), Order::Descending, distance)?;
+    }
+    Ok(())
+}
+
+#[test]
+fn files_searched_in_strides_pair_as_a_filter_says(rt: HostRuntime) -> Result<(), Fail> {
+    for distance in [4, 8, 13] {
+        assert_searched(&rt, rt.alloc(), Order::Strided, distance)?;
+    }
+    Ok(())
+}
