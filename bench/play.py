@@ -9,7 +9,7 @@ on this machine is skipped with a line that says so.
     bench/play.py [IMPORTS [DECISIONS]]
 
 Each program runs some times in turn; the least time of each counts. A decision looks at all files for
-now, so the decisions are timed over fewer files than the imports.
+now, and a search at many words of the tree, so both are timed over fewer files than the imports.
 """
 import os
 import pathlib
@@ -22,6 +22,7 @@ import time
 HERE = pathlib.Path(__file__).resolve().parent
 TOP = HERE.parent
 ROUNDS = 3
+SEARCHED = 20_000
 REGISTRY = pathlib.Path("/usr/share/cargo/registry")
 
 
@@ -36,15 +37,43 @@ def imports(count):
     return "".join(import_line(number) for number in range(count))
 
 
-def hashed_imports(count):
-    """Each file has one hash of a fixed generator, and every tenth the hash of the file before."""
-    lines = []
+def next_word(word):
+    return (word * 6364136223846793005 + 1442695040888963407) % 2**64
+
+
+def with_hashes(words):
+    return "".join(
+        import_line(number).replace("[]", '["%016x"]' % word) for number, word in enumerate(words)
+    )
+
+
+def random_words(count):
+    """Words of a fixed generator, and every tenth the same as the one before."""
+    words = []
     word = 1
     for number in range(count):
         if number % 10 != 9:
-            word = (word * 6364136223846793005 + 1442695040888963407) % 2**64
-        lines.append(import_line(number).replace("[]", '["%016x"]' % word))
-    return "".join(lines)
+            word = next_word(word)
+        words.append(word)
+    return words
+
+
+def clustered_words(count):
+    """Clusters of ten words, each with up to four bits turned of the cluster's first one."""
+    words = []
+    word = 1
+    for number in range(count):
+        if number % 10 == 0:
+            word = next_word(word)
+            chance = word
+            words.append(word)
+            continue
+        near = word
+        for _ in range(4):
+            chance = next_word(chance)
+            near ^= 1 << (chance >> 58)
+        words.append(near)
+    return words
 
 
 def searches(count):
@@ -125,10 +154,14 @@ def main():
         cases = {
             "imports": (imports(count), count),
             "twice the imports": (imports(2 * count), 2 * count),
-            "imports with hashes": (hashed_imports(count), count),
-            "imports with hashes, and their search jobs": (
-                hashed_imports(count) + searches(count),
-                count + count // 1024 + 1,
+            "imports with hashes": (with_hashes(random_words(count)), count),
+            "imports with random hashes, and their search jobs": (
+                with_hashes(random_words(SEARCHED)) + searches(SEARCHED),
+                SEARCHED + SEARCHED // 1024 + 1,
+            ),
+            "imports with hashes in clusters, and their search jobs": (
+                with_hashes(clustered_words(SEARCHED)) + searches(SEARCHED),
+                SEARCHED + SEARCHED // 1024 + 1,
             ),
             "decisions": (imports(decided) + decisions(decided, decided), 2 * decided),
             "twice the files and decisions": (
