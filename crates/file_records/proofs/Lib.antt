@@ -4,6 +4,7 @@ pub mod Held
 pub mod Holders
 pub mod Listed
 pub mod Lookups
+pub mod Marks
 pub mod Near
 pub mod Nexts
 pub mod Numbers

@@ -15,7 +15,8 @@ use Rattle.media_types.specs.declared.hash.Hash64.{Hash64}
 use Rattle.media_types.specs.declared.numbers.FileNo.{FileNo}
 use Rattle.file_records.specs.Distances.{least_distance}
 use Rattle.file_records.specs.Near.{distance_at, hashes_at, if_reached, near_at, near_pairs}
-use Rattle.file_records.specs.Searching.{deleted, is_named, passes, reaches, searched}
+use Rattle.file_records.specs.Living.{deleted}
+use Rattle.file_records.specs.Searching.{is_named, passes, reaches, searched}
 use Rattle.file_records.specs.declared.file_row.FileRow.{FileRow}
 use Rattle.file_records.proofs.Ascending.{filter_agree_on}
 use Rattle.file_records.proofs.Distances.{symmetric}

@@ -1,6 +1,6 @@
 -- How far the duplicates of files were searched, and which files are to be searched.
-use Rattle.std.specs.Prelude.{ℕ, suc, Bool, true, false, ◌==◌, ◌&&◌, if◌then◌else◌, nat_le, nat_lt, not, List, [], ◌∷◌, length, filter, slice_get, max, Some}
-use Rattle.std.specs.List.{list_any, range_with_len}
+use Rattle.std.specs.Prelude.{ℕ, suc, Bool, true, false, ◌==◌, ◌&&◌, if◌then◌else◌, nat_le, nat_lt, List, [], ◌∷◌, length, filter, slice_get, max, Some}
+use Rattle.std.specs.List.{list_any}
 use Rattle.std.specs.Option.{option_map_or}
 use Rattle.media_types.specs.Numbered.{files}
 use Rattle.media_types.specs.declared.numbers.FileNo.{FileNo}
@@ -10,9 +10,13 @@ use Rattle.file_records.specs.declared.file_row.FileRow.{FileRow}
 abbrev pub is_short_of : ℕ → FileRow → Bool
 is_short_of d row = option_map_or (λ s. nat_lt s d) row.searched true
 
--- a live file with a hash is to be searched within d until it was
+-- a file with a hash wants a search within d until it was searched so far
+abbrev pub wants_search : ℕ → FileRow → Bool
+wants_search d row = nat_lt 0 (length row.hashes) && is_short_of d row
+
+-- and is to be searched while it is live
 abbrev pub is_queued : ℕ → FileRow → Bool
-is_queued d row = row.live && (nat_lt 0 (length row.hashes) && is_short_of d row)
+is_queued d row = row.live && wants_search d row
 
 -- the file of number k is there and passes the test
 abbrev pub passes : (FileRow → Bool) → List FileRow → ℕ → Bool
@@ -21,10 +25,6 @@ passes test rows k = option_map_or test (slice_get rows k) false
 -- it was searched within d or farther
 abbrev pub reaches : ℕ → FileRow → Bool
 reaches d row = option_map_or (nat_le d) row.searched false
-
--- the numbers of the deleted files, ascending
-abbrev pub deleted : List FileRow → List ℕ
-deleted rows = filter (passes (λ row. not row.live) rows) (range_with_len 0 (length rows))
 
 -- the files that are to be searched within d, ascending
 unfoldable pub queue_of : ℕ → List FileRow → List FileNo

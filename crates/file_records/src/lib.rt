@@ -1,11 +1,12 @@
 //! What is recorded of files: the row of a file, the table of files with its look-up by SHA-256, the
-//! numbers of their distinct hashes, and how far their duplicates were searched.
+//! numbers of their distinct hashes, which files are live, and how far their duplicates were searched.
 #![tactic(auto)]
 
 mod file_row;
 mod files;
 mod hashes;
 mod import_plan;
+mod living;
 mod searching;
 mod theorems;
 
@@ -13,7 +14,7 @@ pub use file_row::FileRow;
 pub use files::Files;
 pub use import_plan::ImportPlan;
 pub use media_types::NewFile;
-pub use theorems::{hash_laws, laws, near_laws, search_laws};
+pub use theorems::{hash_laws, laws, live_laws, near_laws, search_laws};
 
 #[cfg(test)]
 mod tests;

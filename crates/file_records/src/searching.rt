@@ -1,5 +1,5 @@
 ghost use Rattle.std.specs.Prelude.{◌≡◌, ◌+◌, ◌<◌, ◌≤◌, [], ◌∷◌, length, All, IfOk};
-ghost use Rattle.file_records.specs.Searching.{is_queued, is_short_of, passes, queue_of, rising, searched};
+ghost use Rattle.file_records.specs.Searching.{is_queued, is_short_of, passes, queue_of, rising, searched, wants_search};
 
 use crate::file_row::FileRow;
 use crate::files::Files;
@@ -60,6 +60,20 @@ impl Files {
         is_queued(self.row(file, steps), within)
     }
 
+    /// Whether a file is to be searched within a distance while it is live. It counts as one read.
+    pub fn wants_search<L: Ledger>(
+        &self,
+        file: FileNo,
+        within: SearchDistance,
+        steps: &mut Steps<L>,
+    ) -> bool
+        requires { file.0 < length self.now.rows }
+        ensures wants { result ≡ passes (wants_search within) self.now.rows file.0 }
+        ensures steps { steps.new ≡ steps.old + 1 }
+    {
+        wants_search(self.row(file, steps), within)
+    }
+
     /// The files that are to be searched within a distance, ascending. It reads every row.
     pub fn queue<L: Ledger>(
         &self,
@@ -90,9 +104,16 @@ fn is_short_of(row: &FileRow, within: SearchDistance) -> bool
     }
 }
 
-// Whether it is a live file with a hash that wasn't searched far enough.
+// Whether it has a hash, and wasn't searched far enough.
+fn wants_search(row: &FileRow, within: SearchDistance) -> bool
+    ensures { result ≡ wants_search within row.now }
+{
+    !row.hashes.as_slice().is_empty() && is_short_of(row, within)
+}
+
+// Whether it is a live file that wants a search.
 fn is_queued(row: &FileRow, within: SearchDistance) -> bool
     ensures { result ≡ is_queued within row.now }
 {
-    row.live && !row.hashes.as_slice().is_empty() && is_short_of(row, within)
+    row.live && wants_search(row, within)
 }

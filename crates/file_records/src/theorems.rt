@@ -1,6 +1,9 @@
-ghost use Rattle.std.specs.Prelude.{◌≡◌, ◌≢◌, ◌↔◌, ◌<◌, ◌≤◌, ◌+◌, ◌&&◌, ℕ, true, not, if◌then◌else◌, List, [], ◌∷◌, ◌++◌, length, filter, None, Some, All, Contains, slice_get};
+ghost use Rattle.std.specs.Prelude.{◌≡◌, ◌≢◌, ◌↔◌, ◌<◌, ◌≤◌, ◌+◌, ◌&&◌, ◌==◌, ℕ, Bool, true, not, nat_lt, if◌then◌else◌, List, [], ◌∷◌, ◌++◌, length, filter, None, Some, All, Contains, slice_get};
 ghost use Rattle.std.specs.List.{AllPairs};
+ghost use Rattle.std.specs.BTreeSet.{insert_key};
 ghost use Rattle.std.specs.Option.{option_map};
+ghost use Rattle.std.specs.Ordering.{nat_cmp};
+ghost use Rattle.spare_tables.specs.Keys.{without};
 ghost use Rattle.media_types.specs.declared.hash.Hash64.{Hash64};
 ghost use Rattle.media_types.specs.declared.hash.Sha.{Sha};
 ghost use Rattle.media_types.specs.declared.numbers.FileNo.{FileNo};
@@ -8,7 +11,8 @@ ghost use Rattle.file_records.specs.declared.file_row.FileRow.{FileRow as Row};
 ghost use Rattle.file_records.specs.Distances.{least_distance};
 ghost use Rattle.file_records.specs.Lookup.{AreDistinct, IsUnknown, file_with};
 ghost use Rattle.file_records.specs.Near.{hashes_at, near_at, near_pairs};
-ghost use Rattle.file_records.specs.Searching.{deleted, is_named, is_queued, is_short_of, passes, queue_of, raised, rising, searched};
+ghost use Rattle.file_records.specs.Living.{deleted, with_live_mark, with_mark};
+ghost use Rattle.file_records.specs.Searching.{is_named, is_queued, is_short_of, passes, queue_of, raised, rising, searched, wants_search};
 ghost use Rattle.file_records.specs.Words.{AreDistinctWords, has_hash, new_words, words_of};
 
 /// What the words about look-ups mean, for all lists of files. The call does nothing.
@@ -87,6 +91,40 @@ pub fn search_laws()
         → d ≤ w → length (queue_of d (searched w named files))
         + length (filter (λ f. passes (is_queued d) files f.0) (rising w named files))
         ≡ length (queue_of d files) }
+{}
+
+/// What it does to all lists of files that one of them is deleted, or live again. The call does nothing.
+pub fn live_laws()
+    // The mark of this file is another one, and nothing else.
+    ensures each { (n : ℕ) (live : Bool) (files : List Row) (k : ℕ)
+        → slice_get (with_live_mark n live files) k
+        ≡ option_map (λ row. if k == n then with_mark live row else row) (slice_get files k) }
+    ensures same_length { (n : ℕ) (live : Bool) (files : List Row)
+        → length (with_live_mark n live files) ≡ length files }
+    ensures distinct { (n : ℕ) (live : Bool) (files : List Row)
+        → AreDistinct files → AreDistinct (with_live_mark n live files) }
+    ensures words { (n : ℕ) (live : Bool) (files : List Row)
+        → words_of (with_live_mark n live files) ≡ words_of files }
+    ensures near { (n : ℕ) (live : Bool) (files : List Row)
+        → near_pairs (with_live_mark n live files) ≡ near_pairs files }
+
+    // Nothing changes exactly where the mark stands so already. The mark as it was brings all back.
+    ensures changes { (n : ℕ) (live : Bool) (files : List Row) (row : Row) → slice_get files n ≡ Some row
+        → (with_live_mark n live files ≡ files) ↔ (row.live ≡ live) }
+    ensures back { (n : ℕ) (live : Bool) (files : List Row) (row : Row) → slice_get files n ≡ Some row
+        → with_live_mark n row.live (with_live_mark n live files) ≡ files }
+
+    // The file goes to its place among the deleted ones, or leaves it.
+    ensures deleted { (n : ℕ) (live : Bool) (files : List Row) → n < length files
+        → deleted (with_live_mark n live files)
+        ≡ (if live then without nat_cmp (deleted files) n else insert_key nat_cmp (deleted files) n) }
+
+    // So it does in the queue, where it stands while it is live and wants a search.
+    ensures queue { (d : ℕ) (file : FileNo) (live : Bool) (files : List Row)
+        → queue_of d (with_live_mark file.0 live files)
+        ≡ filter (λ other. nat_lt other.0 file.0) (queue_of d files)
+        ++ ((if live && passes (wants_search d) files file.0 then file ∷ [] else [])
+        ++ filter (λ other. nat_lt file.0 other.0) (queue_of d files)) }
 {}
 
 /// What holds of the near pairs and of the deleted files of all lists of files. The call does nothing.

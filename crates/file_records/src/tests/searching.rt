@@ -2,7 +2,7 @@
 
 ghost use Rattle.std.specs.Prelude.{◌≡◌, ◌<◌};
 
-use super::{file_of, plan_new};
+use super::{file_of, plan_new, sha_of};
 use crate::Files;
 use media_types::{FileList, FileNo, NoMemory, SearchDistance, Steps};
 use std::alloc::Global;
@@ -170,4 +170,48 @@ fn files_wait<L: Ledger>(
 #[test]
 fn a_file_waits_until_it_is_searched(rt: HostRuntime) -> Result<(), Fail> {
     files_wait::<Brand>(&rt, rt.alloc(), Blank::new(1))
+}
+
+fn mark(rt: &impl Abort, files: &mut Files, file: u32, live: bool) {
+    assert!(rt; file < files.len());
+    files.set_live(FileNo(file), live);
+}
+
+// A file that wants a search within one bit, and is found, whether it is live or deleted.
+fn assert_mark<L: Ledger>(
+    rt: &impl Abort,
+    files: &Files,
+    file: u32,
+    live: bool,
+    steps: &mut Steps<L>,
+) {
+    assert_eq!(rt; files.find(&sha_of(file)), Some(FileNo(file)));
+    assert!(rt; file < files.len());
+    assert_eq!(rt; files.row(FileNo(file), steps).live, live);
+    assert!(rt; files.wants_search(FileNo(file), within(rt, 1), steps));
+    assert!(rt; !files.wants_search(FileNo(file), within(rt, 0), steps));
+}
+
+fn file_goes_and_comes<L: Ledger>(
+    rt: &(impl Abort + Threads),
+    alloc: Global,
+    blank: Blank,
+) -> Result<(), Fail>
+    requires name { blank.name ≡ L.name }
+    requires parts { blank.parts ≡ L.parts }
+    requires some { 0 < L.parts }
+{
+    let mut steps = Steps::<L>::new(rt, blank);
+    let mut files = six_files(rt, alloc)?;
+    mark(rt, &mut files, 4, false);
+    assert_mark(rt, &files, 4, false, &mut steps);
+    assert_queue(rt, &files, 1, &[0, 5], &mut steps)?;
+    mark(rt, &mut files, 4, true);
+    assert_mark(rt, &files, 4, true, &mut steps);
+    assert_queue(rt, &files, 1, &[0, 4, 5], &mut steps)
+}
+
+#[test]
+fn a_deleted_file_comes_back(rt: HostRuntime) -> Result<(), Fail> {
+    file_goes_and_comes::<Brand>(&rt, rt.alloc(), Blank::new(1))
 }
