@@ -1,5 +1,5 @@
 -- What the laws of the crates below say, as the lemmas here take it.
-use Rattle.std.proofs.Common.{◌≡◌, ◌↔◌, ◌<◌, ℕ, nat_lt, if◌then◌else◌, List, [], ◌∷◌, ◌++◌, length, map, Option, None}
+use Rattle.std.proofs.Common.{◌≡◌, ◌↔◌, ◌<◌, ◌==◌, ℕ, Bool, nat_lt, if◌then◌else◌, List, [], ◌∷◌, ◌++◌, length, map, slice_get, Option, None, Some, option_map}
 use Rattle.std.specs.List.{All}
 use Rattle.std.specs.List.Sorted.{IsStrictlySortedBy}
 use Rattle.std.specs.Map.{keys_of}
@@ -9,6 +9,7 @@ use Rattle.spare_tables.specs.Keys.{value_of}
 use Rattle.spare_tables.specs.Order.{pair_cmp}
 use Rattle.spare_tables.specs.Pairs.{pairs_below, value_below}
 use Rattle.file_records.specs.declared.file_row.FileRow.{FileRow}
+use Rattle.file_records.specs.Living.{with_live_mark, with_mark}
 use Rattle.file_records.specs.Lookup.{AreDistinct, IsUnknown, file_with}
 use Rattle.file_records.specs.Near.{near_pairs}
 use Rattle.file_records.specs.Searching.{queue_of, rising, searched}
@@ -27,6 +28,33 @@ OneMore = (file : FileRow) (files : List FileRow) → AreDistinct files → IsUn
 -- a file that was never searched is near to none
 abbrev pub NearOneMore : Type 0
 NearOneMore = (file : FileRow) (files : List FileRow) → file.searched ≡ None → near_pairs (files ++ file ∷ []) ≡ near_pairs files
+
+-- the mark of one file is this one then, and no other changes
+abbrev pub MarkOfOne : Type 0
+MarkOfOne = (n : ℕ) (live : Bool) (files : List FileRow) (k : ℕ) →
+    slice_get (with_live_mark n live files) k ≡ option_map (λ row. if k == n then with_mark live row else row) (slice_get files k)
+
+-- a mark adds and removes no file
+abbrev pub MarkSameLength : Type 0
+MarkSameLength = (n : ℕ) (live : Bool) (files : List FileRow) → length (with_live_mark n live files) ≡ length files
+
+-- after a mark too no two files have the same SHA-256
+abbrev pub MarkStaysDistinct : Type 0
+MarkStaysDistinct = (n : ℕ) (live : Bool) (files : List FileRow) → AreDistinct files → AreDistinct (with_live_mark n live files)
+
+-- and the same pairs are near
+abbrev pub MarkSameNear : Type 0
+MarkSameNear = (n : ℕ) (live : Bool) (files : List FileRow) → near_pairs (with_live_mark n live files) ≡ near_pairs files
+
+-- a mark changes nothing where it stood so already, and only there
+abbrev pub MarkChanges : Type 0
+MarkChanges = (n : ℕ) (live : Bool) (files : List FileRow) (row : FileRow) → slice_get files n ≡ Some row →
+    (with_live_mark n live files ≡ files) ↔ (row.live ≡ live)
+
+-- and is taken back by the mark that was there
+abbrev pub MarkTakenBack : Type 0
+MarkTakenBack = (n : ℕ) (live : Bool) (files : List FileRow) (row : FileRow) → slice_get files n ≡ Some row →
+    with_live_mark n row.live (with_live_mark n live files) ≡ files
 
 -- a search changes nothing where no searched distance rises, and only there
 abbrev pub NoneRises : Type 0

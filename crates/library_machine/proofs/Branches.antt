@@ -1,5 +1,5 @@
 -- The step's commands by what their tests say.
-use Rattle.std.proofs.Common.{◌≡◌, ℕ, Bool, nat_lt, ◌==◌, ◌&&◌, not, if◌then◌else◌, List, [], ◌∷◌, ◌++◌, length, map, slice_get, refl}
+use Rattle.std.proofs.Common.{◌≡◌, ℕ, Bool, true, false, nat_lt, ◌==◌, ◌&&◌, not, if◌then◌else◌, List, [], ◌∷◌, ◌++◌, length, map, slice_get, refl}
 use Rattle.std.specs.List.{list_any}
 use Rattle.media_types.specs.declared.decision.Decision.{Decision}
 use Rattle.media_types.specs.declared.limits.TheConstants.{MAX_DECISIONS}
@@ -12,6 +12,7 @@ use Rattle.media_base.specs.declared.change.Change.TheVariants as changes
 use Rattle.media_base.specs.declared.refusal.Refusal.TheVariants as refusals
 use Rattle.media_base.specs.declared.reply.ImportStatus.TheVariants as imports
 use Rattle.media_base.specs.declared.reply.Reply.TheVariants.{Imported, Decided, Undone, Relations, Pairs, PairCount, Distance, Queues}
+use Rattle.file_records.specs.Living.{is_live}
 use Rattle.file_records.specs.Rows.{row_of}
 use Rattle.file_records.specs.Searching.{rising}
 use Rattle.decision_book.specs.Recorded.{undone_at}
@@ -19,7 +20,7 @@ use Rattle.decision_book.specs.Standing as book
 use Rattle.relation_groups.specs.Relations.{relations_at}
 use Rattle.potential_pairs.specs.Pages.{named, page_of, within}
 use Rattle.library_machine.specs.Records.{Records}
-use Rattle.library_machine.specs.Step.{Outcome, told, refused, changed, has_file, decide, undo_at, undo, relations, potential_pairs, pairs, pair_count, set_distance, search_queue, counts, after_search, search_of, search, search_files, next_search, search_job, queues}
+use Rattle.library_machine.specs.Step.{Outcome, told, refused, changed, has_file, marked, delete, undelete, decide, undo_at, undo, relations, potential_pairs, pairs, pair_count, set_distance, search_queue, counts, after_search, search_of, search, search_files, next_search, search_job, queues}
 
 -- a new file, where there is room or not
 abbrev pub import_by : Records → NewFile → Bool → Outcome
@@ -29,6 +30,27 @@ import_by r file room =
     (Imported (record { file = record { 0 = length r.files }; status = imports.New }))
     (changes.File file)
     else refused r refusals.FullFiles
+
+-- whether the file's mark is this one already
+abbrev pub is_marked : Records → FileNo → Bool → Bool
+is_marked r file true = is_live r.files file.0
+is_marked r file false = not (is_live r.files file.0)
+
+-- a mark of a file that is there or not, where it is another one or not
+abbrev pub mark_by : Records → FileNo → Bool → Bool → Bool → Outcome
+mark_by r file live there already =
+    if there then marked r file live already else refused r refusals.UnknownFile
+
+abbrev pub mark : Records → FileNo → Bool → Outcome
+mark r file live = mark_by r file live (has_file r file) (is_marked r file live)
+
+pub delete_is : (r : Records) (file : FileNo) → delete r file ≡ mark r file false
+unfolding delete
+delete_is r file = refl
+
+pub undelete_is : (r : Records) (file : FileNo) → undelete r file ≡ mark r file true
+unfolding undelete
+undelete_is r file = refl
 
 -- a decision, where both files are there or not, where they are one or not, where there is room or not
 abbrev pub decide_by : Records → Decision → Bool → Bool → Bool → Outcome

@@ -1,5 +1,5 @@
 -- Exactly when the step gives each refusal, and which commands have none.
-use Rattle.std.proofs.Common.{◌≡◌, ◌≢◌, ◌↔◌, ◌⊎◌, inl, inr, ◌≤◌, ℕ, Bool, true, false, not, nat_lt, ◌==◌, ◌&&◌, Option, Some, None, length, slice_get, refl, arith, ap, subst, sym, List, [], ◌∷◌}
+use Rattle.std.proofs.Common.{◌≡◌, ◌≢◌, ◌↔◌, ◌⊎◌, inl, inr, ◌≤◌, ℕ, Bool, true, false, not, nat_lt, ◌==◌, ◌&&◌, if◌then◌else◌, Option, Some, None, length, slice_get, refl, arith, ap, subst, sym, List, [], ◌∷◌}
 use Rattle.std.specs.List.{All}
 use Rattle.std.proofs.lemmas.Option.{slice_get_cases, slice_get_past}
 use Rattle.std.proofs.lemmas.Bool.{ltb-true, ltb-false, lt-ltb, leb-true, leb-false, eqb-true, eqb-false, and_parts, and_cases, not-false, not_from_true, false_from_ne_true, both_ways}
@@ -19,13 +19,16 @@ use Rattle.media_base.specs.declared.refusal.Refusal.{Refusal}
 use Rattle.media_base.specs.declared.refusal.Refusal.TheVariants as refusals
 use Rattle.media_base.specs.declared.reply.Reply.TheVariants.{Refused}
 use Rattle.library_machine.specs.Records.{Records, IsThere, IsNew, IsRecorded, IsFullOfFiles, IsFullOfDecisions}
-use Rattle.library_machine.specs.Laws.{RefusesImports, RefusesDecisions, RefusesUndoing, RefusesRelations, FindsTooMany, RefusesSearches, RefusesJobs, IsNeverRefused}
+use Rattle.library_machine.specs.Laws.{RefusesImports, RefusesDecisions, RefusesUndoing, RefusesUnknownFiles, FindsTooMany, RefusesSearches, RefusesJobs, IsNeverRefused}
 use Rattle.file_records.specs.Lookup.{file_with}
 use Rattle.file_records.specs.Searching.{rising}
 use Rattle.decision_book.specs.declared.decision_row.DecisionRow.{DecisionRow}
-use Rattle.library_machine.specs.Step.{Outcome, import_at, import, step, has_file, undo_at, after_search, has_room_for_near, search_of, search, next_search}
+use Rattle.library_machine.specs.Step.{Outcome, refused, import_at, import, marked, step, has_file, undo_at, after_search, has_room_for_near, search_of, search, next_search}
 use Rattle.library_machine.proofs.Below.{NotFound}
-use Rattle.library_machine.proofs.Branches.{import_by, decide_by, decide_is, undo_by, undo_is, relations_by, relations_is, pairs_is, pair_count_is, distance_by, distance_is, search_by, search_is, is_missing, search_files_by, search_files_is, search_job_is, queues_is}
+use Rattle.library_machine.proofs.Branches.{import_by, delete_is, undelete_is, decide_by, decide_is, undo_by, undo_is, relations_is, pairs_is, pair_count_is, distance_by, distance_is, search_by, search_is, is_missing, search_files_by, search_files_is, search_job_is, queues_is}
+
+abbrev IsNoRefusal : Outcome → Type 0
+IsNoRefusal o = (why : Refusal) → ¬ (o.reply ≡ Refused why)
 
 -- what `RefusesImports` says, of the outcome that an import has
 abbrev RefusesAsImport : Records → NewFile → Outcome → Type 0
@@ -61,7 +64,7 @@ refuses_imports not_found r Console file =
     let both = import_refused not_found r file (file_with file.sha r.files) refl in
     record { full_files = both.0; no_other = both.1 }
 
--- ---- decisions and relations
+-- ---- decisions, and commands on one file
 
 not_there : (r : Records) (file : FileNo) → has_file r file ≡ false → ¬ IsThere r file
 not_there r file is there = let le = ltb-false _ _ is in omega arith
@@ -133,23 +136,41 @@ refuses_decisions r Console d =
     let all = subst (RefusesAsDecision r d) (sym (decide_is r d)) (decision_refused r d _ _ _ refl refl refl) in
     record { unknown_file = all.0; same_file = all.1; full_decisions = all.2; no_other = all.3 }
 
--- what `RefusesRelations` says, of the outcome that the question has
-abbrev RefusesAsRelations : Records → FileNo → Outcome → Type 0
-RefusesAsRelations r file o =
+-- what `RefusesUnknownFiles` says, of the outcome that the command has
+abbrev RefusesAsUnknown : Records → FileNo → Outcome → Type 0
+RefusesAsUnknown r file o =
     ((o.reply ≡ Refused refusals.UnknownFile) ↔ (¬ IsThere r file))
     × ((why : Refusal) → o.reply ≡ Refused why → why ≡ refusals.UnknownFile)
 
-relations_refused : (r : Records) (file : FileNo) (there : Bool) → has_file r file ≡ there → RefusesAsRelations r file (relations_by r file there)
-relations_refused r file true is = (
-  (λ e. absurd (cc), λ missing. absurd (missing (ltb-true _ _ is))),
-  λ why e. absurd (cc),
+-- an outcome that is no refusal, where the file is there, and else one
+unknown_refused : (r : Records) (file : FileNo) (o : Outcome) (there : Bool) → IsNoRefusal o → has_file r file ≡ there →
+    RefusesAsUnknown r file (if there then o else refused r refusals.UnknownFile)
+unknown_refused r file o true passes is = (
+  (λ e. absurd (passes _ e), λ missing. absurd (missing (ltb-true _ _ is))),
+  λ why e. absurd (passes why e),
 )
-relations_refused r file false is = ((λ e. not_there r file is, λ missing. refl), λ why e. cc)
+unknown_refused r file o false passes is = ((λ e. not_there r file is, λ missing. refl), λ why e. cc)
 
-pub refuses_relations : (r : Records) (caller : Caller) (file : FileNo) → RefusesRelations r caller file
+pub refuses_relations : (r : Records) (caller : Caller) (file : FileNo) → RefusesUnknownFiles commands.Relations r caller file
 unfolding step
 refuses_relations r Console file =
-    let both = subst (RefusesAsRelations r file) (sym (relations_is r file)) (relations_refused r file _ refl) in
+    let both = subst (RefusesAsUnknown r file) (sym (relations_is r file)) (unknown_refused r file _ _ (λ why e. cc) refl) in
+    record { unknown_file = both.0; no_other = both.1 }
+
+mark_passes : (r : Records) (file : FileNo) (live already : Bool) → IsNoRefusal (marked r file live already)
+mark_passes r file live true why e = cc
+mark_passes r file live false why e = cc
+
+pub refuses_deletions : (r : Records) (caller : Caller) (file : FileNo) → RefusesUnknownFiles commands.Delete r caller file
+unfolding step
+refuses_deletions r Console file =
+    let both = subst (RefusesAsUnknown r file) (sym (delete_is r file)) (unknown_refused r file _ _ (mark_passes r file _ _) refl) in
+    record { unknown_file = both.0; no_other = both.1 }
+
+pub refuses_undeletions : (r : Records) (caller : Caller) (file : FileNo) → RefusesUnknownFiles commands.Undelete r caller file
+unfolding step
+refuses_undeletions r Console file =
+    let both = subst (RefusesAsUnknown r file) (sym (undelete_is r file)) (unknown_refused r file _ _ (mark_passes r file _ _) refl) in
     record { unknown_file = both.0; no_other = both.1 }
 
 -- ---- undoing
@@ -269,9 +290,6 @@ refuses_jobs r Console n =
     record { full_near = both.0; no_other = both.1 }
 
 -- ---- commands that are never refused
-
-abbrev IsNoRefusal : Outcome → Type 0
-IsNoRefusal o = (why : Refusal) → ¬ (o.reply ≡ Refused why)
 
 distance_no_refusal : (r : Records) (d : ℕ) (same : Bool) → IsNoRefusal (distance_by r d same)
 distance_no_refusal r d true why e = cc

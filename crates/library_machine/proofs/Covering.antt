@@ -16,7 +16,8 @@ use Rattle.spare_tables.specs.Pairs.{pairs_below}
 use Rattle.file_records.specs.declared.file_row.FileRow.{FileRow}
 use Rattle.file_records.specs.Distances.{distances, least_distance}
 use Rattle.file_records.specs.Near.{distance_at, hashes_at, if_reached, near_at, near_pairs}
-use Rattle.file_records.specs.Searching.{deleted, is_queued, is_short_of, passes, queue_of, reaches}
+use Rattle.file_records.specs.Living.{deleted}
+use Rattle.file_records.specs.Searching.{is_queued, is_short_of, passes, queue_of, reaches}
 use Rattle.relation_groups.specs.Relations.{Relations}
 use Rattle.potential_pairs.specs.Pages.{is_behind, named, page_of}
 use Rattle.potential_pairs.specs.Potential.{Row, is_between, is_live, least_between, may_pair, potential_at}

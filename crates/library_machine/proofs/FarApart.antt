@@ -9,7 +9,8 @@ use Rattle.media_base.specs.declared.reply.Reply.{Reply}
 use Rattle.media_base.specs.declared.reply.Reply.TheVariants.{Pairs}
 use Rattle.spare_tables.specs.Pairs.{pairs_below}
 use Rattle.file_records.specs.Near.{near_at, near_pairs}
-use Rattle.file_records.specs.Searching.{deleted, queue_of, rising, searched}
+use Rattle.file_records.specs.Living.{deleted}
+use Rattle.file_records.specs.Searching.{queue_of, rising, searched}
 use Rattle.potential_pairs.specs.Pages.{named, page_of}
 use Rattle.potential_pairs.specs.Potential.{Row, potential_at, potentials}
 use Rattle.library_machine.specs.Records.{Records, no_records}

@@ -19,8 +19,8 @@ use Rattle.library_machine.specs.Laws.{StepsKeepFit, AnswersKeepFit}
 use Rattle.file_records.specs.Lookup.{IsUnknown, file_with}
 use Rattle.file_records.specs.Rows.{row_of}
 use Rattle.library_machine.specs.Step.{Outcome, import_at, import, step, has_file, undo_at, after_search, has_room_for_near, search_of, search, next_search, by_step, no_memory, journal_full, not_kept}
-use Rattle.library_machine.proofs.Below.{NotFound, OneMore, NearOneMore, SameLength, StayDistinct, SameDecisions, SameRecorded}
-use Rattle.library_machine.proofs.Branches.{import_by, decide_by, decide_is, undo_by, undo_is, relations_by, relations_is, pairs_is, pair_count_is, distance_by, distance_is, search_by, search_is, search_files_by, search_files_is, search_job_is, queues_is}
+use Rattle.library_machine.proofs.Below.{NotFound, OneMore, NearOneMore, MarkSameLength, MarkStaysDistinct, MarkSameNear, SameLength, StayDistinct, SameDecisions, SameRecorded}
+use Rattle.library_machine.proofs.Branches.{import_by, mark_by, delete_is, undelete_is, decide_by, decide_is, undo_by, undo_is, relations_by, relations_is, pairs_is, pair_count_is, distance_by, distance_is, search_by, search_is, search_files_by, search_files_is, search_job_is, queues_is}
 
 abbrev StillFits : Outcome → Type 0
 StillFits o = Fits o.records
@@ -44,6 +44,19 @@ import_fits : NotFound → OneMore → NearOneMore → (r : Records) (file : New
 import_fits not_found one_more near_one_more r file (Some at) is fits = fits
 import_fits not_found one_more near_one_more r file None is fits =
     new_file_fits one_more near_one_more r file (nat_lt (length r.files) MAX_FILES) ((not_found file.sha r.files).0 is) refl fits
+
+mark_fits : MarkSameLength → MarkStaysDistinct → MarkSameNear → (r : Records) (file : FileNo) (live there already : Bool) →
+    Fits r → Fits (mark_by r file live there already).records
+mark_fits same_length stays_distinct same_near r file live false already fits = fits
+mark_fits same_length stays_distinct same_near r file live true true fits = fits
+mark_fits same_length stays_distinct same_near r file live true false fits = record {
+  few_files = rw (same_length file.0 live r.files) fits.few_files;
+  few_decisions = fits.few_decisions;
+  few_near = rw (same_near file.0 live r.files) fits.few_near;
+  distinct = stays_distinct file.0 live r.files fits.distinct;
+  among = rw (same_length file.0 live r.files) fits.among;
+  of_two = fits.of_two;
+}
 
 decision_fits : (r : Records) (d : Decision) (there same room : Bool) →
     (has_file r d.a && has_file r d.b) ≡ there → (d.a.0 == d.b.0) ≡ same → nat_lt (length r.decisions) MAX_DECISIONS ≡ room → Fits r →
@@ -131,6 +144,9 @@ pub record Laws : Type 0 where
   pub not_found : NotFound
   pub one_more : OneMore
   pub near_one_more : NearOneMore
+  pub mark_same_length : MarkSameLength
+  pub mark_stays_distinct : MarkStaysDistinct
+  pub mark_same_near : MarkSameNear
   pub same_length : SameLength
   pub stay_distinct : StayDistinct
   pub same_decisions : SameDecisions
@@ -140,6 +156,10 @@ pub steps_keep_fit : Laws → StepsKeepFit
 unfolding step import
 steps_keep_fit laws r Console (commands.Import file) fits =
     import_fits laws.not_found laws.one_more laws.near_one_more r file (file_with file.sha r.files) refl fits
+steps_keep_fit laws r Console (commands.Delete file) fits =
+    subst StillFits (sym (delete_is r file)) (mark_fits laws.mark_same_length laws.mark_stays_distinct laws.mark_same_near r file _ _ _ fits)
+steps_keep_fit laws r Console (commands.Undelete file) fits =
+    subst StillFits (sym (undelete_is r file)) (mark_fits laws.mark_same_length laws.mark_stays_distinct laws.mark_same_near r file _ _ _ fits)
 steps_keep_fit laws r Console (commands.Decide d) fits =
     subst StillFits (sym (decide_is r d)) (decision_fits r d _ _ _ refl refl refl fits)
 steps_keep_fit laws r Console (commands.Undo n) fits =

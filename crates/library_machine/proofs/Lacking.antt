@@ -11,7 +11,7 @@ use Rattle.library_machine.specs.Laws.{NeverLacks, WantsChange}
 use Rattle.library_machine.specs.Records.{Records}
 use Rattle.library_machine.specs.Step.{Answered, step, by_step, no_memory, journal_full, not_kept}
 use Rattle.library_machine.proofs.Below.{NotFound}
-use Rattle.library_machine.proofs.Causes.{refuses_imports, refuses_decisions, refuses_undoing, refuses_relations, refuses_searches, refuses_jobs, never_refused_pairs, never_refused_pair_counts, never_refused_distances, never_refused_queues, never_refused_rebalancing}
+use Rattle.library_machine.proofs.Causes.{refuses_imports, refuses_deletions, refuses_undeletions, refuses_decisions, refuses_undoing, refuses_relations, refuses_searches, refuses_jobs, never_refused_pairs, never_refused_pair_counts, never_refused_distances, never_refused_queues, never_refused_rebalancing}
 
 -- whether the step itself gives this refusal to some command
 abbrev is_of_steps : Refusal → Bool
@@ -27,6 +27,8 @@ is_of_steps why = false
 reasons : NotFound → (r : Records) (caller : Caller) (command : Command) (why : Refusal) →
     (step r caller command).reply ≡ Refused why → is_of_steps why ≡ true
 reasons not_found r caller (commands.Import file) why e = ap is_of_steps ((refuses_imports not_found r caller file).no_other why e)
+reasons not_found r caller (commands.Delete file) why e = ap is_of_steps ((refuses_deletions r caller file).no_other why e)
+reasons not_found r caller (commands.Undelete file) why e = ap is_of_steps ((refuses_undeletions r caller file).no_other why e)
 reasons not_found r caller (commands.Decide d) why e =
     elim ((refuses_decisions r caller d).no_other why e) [ inl one ↦ ap is_of_steps one | inr (inl one) ↦ ap is_of_steps one | inr (inr one) ↦ ap is_of_steps one ]
 reasons not_found r caller (commands.Undo n) why e =

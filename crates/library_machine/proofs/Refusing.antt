@@ -14,7 +14,7 @@ use Rattle.library_machine.specs.Laws.{RefusalsChangeNothing, RefusedAnswersChan
 use Rattle.library_machine.specs.Records.{Records}
 use Rattle.file_records.specs.Lookup.{file_with}
 use Rattle.library_machine.specs.Step.{Outcome, step, import, import_at, undo_at, has_room_for_near, after_search, search_of, search, next_search, by_step, no_memory, journal_full, not_kept}
-use Rattle.library_machine.proofs.Branches.{import_by, decide_by, decide_is, undo_by, undo_is, relations_by, relations_is, pairs_is, pair_count_is, distance_by, distance_is, search_by, search_is, search_files_by, search_files_is, search_job_is, queues_is}
+use Rattle.library_machine.proofs.Branches.{import_by, mark_by, delete_is, undelete_is, decide_by, decide_is, undo_by, undo_is, relations_by, relations_is, pairs_is, pair_count_is, distance_by, distance_is, search_by, search_is, search_files_by, search_files_is, search_job_is, queues_is}
 
 -- where the outcome is a refusal, its records are these
 abbrev KeepsIfRefused : Records → Outcome → Type 0
@@ -27,6 +27,11 @@ new_file_keeps r file false why e = refl
 import_keeps : (r : Records) (file : NewFile) (at : Option ℕ) → KeepsIfRefused r (import_at r file at)
 import_keeps r file (Some at) why e = refl
 import_keeps r file None why e = new_file_keeps r file _ why e
+
+mark_keeps : (r : Records) (file : FileNo) (live there already : Bool) → KeepsIfRefused r (mark_by r file live there already)
+mark_keeps r file live false already why e = refl
+mark_keeps r file live true true why e = refl
+mark_keeps r file live true false why e = absurd (cc)
 
 decision_keeps : (r : Records) (d : Decision) (there same room : Bool) → KeepsIfRefused r (decide_by r d there same room)
 decision_keeps r d false same room why e = refl
@@ -68,6 +73,10 @@ search_files_keep r s false why e = search_keeps r s why e
 pub refusals_change_nothing : RefusalsChangeNothing
 unfolding step import
 refusals_change_nothing r Console (commands.Import file) = import_keeps r file (file_with file.sha r.files)
+refusals_change_nothing r Console (commands.Delete file) =
+    subst (KeepsIfRefused r) (sym (delete_is r file)) (mark_keeps r file _ _ _)
+refusals_change_nothing r Console (commands.Undelete file) =
+    subst (KeepsIfRefused r) (sym (undelete_is r file)) (mark_keeps r file _ _ _)
 refusals_change_nothing r Console (commands.Decide d) =
     subst (KeepsIfRefused r) (sym (decide_is r d)) (decision_keeps r d _ _ _)
 refusals_change_nothing r Console (commands.Undo n) =

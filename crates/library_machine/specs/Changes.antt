@@ -24,6 +24,8 @@ kept_with (Some change) reply kept = if is_refused reply then kept else option_m
 -- the console's command of the same meaning
 abbrev pub command_of : Change → Command
 command_of (changes.File file) = commands.Import file
+command_of (changes.Live file true) = commands.Undelete file
+command_of (changes.Live file false) = commands.Delete file
 command_of (changes.Decision decision) = commands.Decide decision
 command_of (changes.Undo n) = commands.Undo n
 command_of (changes.Distance d) = commands.SearchDistance d

@@ -6,7 +6,7 @@ use Rattle.media_base.specs.declared.command.Command.TheVariants as commands
 use Rattle.media_base.specs.declared.reply.Reply.TheVariants as replies
 use Rattle.spare_tables.specs.Pairs.{pairs_below}
 use Rattle.file_records.specs.Near.{distance_at}
-use Rattle.file_records.specs.Searching.{deleted}
+use Rattle.file_records.specs.Living.{deleted}
 use Rattle.potential_pairs.specs.Pages.{named, page_of, within}
 use Rattle.potential_pairs.specs.Potential.{Row, potentials}
 use Rattle.library_machine.specs.Records.{Records}

@@ -14,6 +14,7 @@ use Rattle.media_base.specs.declared.refusal.Refusal.{Refusal}
 use Rattle.media_base.specs.declared.refusal.Refusal.TheVariants as refusals
 use Rattle.media_base.specs.declared.reply.Reply.{Reply}
 use Rattle.media_base.specs.declared.reply.Reply.TheVariants.{Refused}
+use Rattle.file_records.specs.Living.{is_live}
 use Rattle.file_records.specs.Near.{near_pairs}
 use Rattle.file_records.specs.Searching.{rising}
 use Rattle.library_machine.specs.Changes.{after_change}
@@ -85,10 +86,15 @@ pub record RefusesUndoing (r : Records) (caller : Caller) (n : DecisionNo) : Typ
   pub no_other : (why : Refusal) → Refuses r caller (commands.Undo n) why →
       (why ≡ refusals.UnknownDecision) ⊎ (why ≡ refusals.AlreadyUndone)
 
--- Why relations are refused: the file isn't there.
-pub record RefusesRelations (r : Records) (caller : Caller) (file : FileNo) : Type 0 where
-  pub unknown_file : Refuses r caller (commands.Relations file) refusals.UnknownFile ↔ (¬ IsThere r file)
-  pub no_other : (why : Refusal) → Refuses r caller (commands.Relations file) why → why ≡ refusals.UnknownFile
+-- Why a command on a file is refused that is refused for nothing else: the file isn't there.
+pub record RefusesUnknownFiles (ask : FileNo → Command) (r : Records) (caller : Caller) (file : FileNo) : Type 0 where
+  pub unknown_file : Refuses r caller (ask file) refusals.UnknownFile ↔ (¬ IsThere r file)
+  pub no_other : (why : Refusal) → Refuses r caller (ask file) why → why ≡ refusals.UnknownFile
+
+-- A live file that is deleted comes back with all that was recorded of it, and all else as it was.
+abbrev pub DeletionsAreTakenBack : Type 0
+DeletionsAreTakenBack = (r : Records) (caller : Caller) (file : FileNo) → is_live r.files file.0 ≡ true →
+    (step (step r caller (commands.Delete file)).records caller (commands.Undelete file)).records ≡ r
 
 -- By the search some file's searched distance rises, and more pairs are near after it than a library holds.
 abbrev pub FindsTooMany : Records → Searching → Type 0

@@ -7,6 +7,7 @@ pub mod Step
 pub mod Worked
 pub use Rattle.media_base.specs.Names
 pub use Rattle.spare_tables.specs.Pairs
+pub use Rattle.file_records.specs.Living
 pub use Rattle.file_records.specs.Lookup
 pub use Rattle.file_records.specs.Near
 pub use Rattle.file_records.specs.Rows

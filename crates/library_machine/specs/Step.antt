@@ -1,5 +1,5 @@
 -- The machine: what one command answers, and what is recorded after it.
-use Rattle.std.specs.Prelude.{◌≡◌, ℕ, Bool, ◌==◌, ◌&&◌, not, if◌then◌else◌, List, [], ◌∷◌, ◌++◌, length, take, map, nat_le, nat_lt, Option, Some, None, IsSome, slice_get}
+use Rattle.std.specs.Prelude.{◌≡◌, ℕ, Bool, true, false, ◌==◌, ◌&&◌, not, if◌then◌else◌, List, [], ◌∷◌, ◌++◌, length, take, map, nat_le, nat_lt, Option, Some, None, IsSome, slice_get}
 use Rattle.std.specs.List.{list_any}
 use Rattle.media_types.specs.declared.decision.Decision.{Decision}
 use Rattle.media_types.specs.declared.limits.TheConstants.{MAX_DECISIONS, MAX_FILES, MAX_NEAR}
@@ -16,13 +16,16 @@ use Rattle.media_base.specs.declared.command.Command.{Command}
 use Rattle.media_base.specs.declared.command.Command.TheVariants as commands
 use Rattle.media_base.specs.declared.refusal.Refusal.{Refusal}
 use Rattle.media_base.specs.declared.refusal.Refusal.TheVariants as refusals
+use Rattle.media_base.specs.declared.reply.ImportStatus.{ImportStatus}
 use Rattle.media_base.specs.declared.reply.ImportStatus.TheVariants as imports
 use Rattle.media_base.specs.declared.reply.Reply.{Reply}
 use Rattle.media_base.specs.declared.reply.Reply.TheVariants as replies
 use Rattle.file_records.specs.Lookup.{file_with}
 use Rattle.file_records.specs.Near.{near_pairs}
 use Rattle.file_records.specs.Rows.{row_of}
-use Rattle.file_records.specs.Searching.{deleted, queue_of, rising, searched}
+use Rattle.file_records.specs.declared.file_row.FileRow.{FileRow}
+use Rattle.file_records.specs.Living.{deleted, is_live, with_live_mark}
+use Rattle.file_records.specs.Searching.{queue_of, rising, searched}
 use Rattle.decision_book.specs.declared.decision_row.DecisionRow.{DecisionRow}
 use Rattle.decision_book.specs.Recorded.{undone_at}
 use Rattle.decision_book.specs.Standing as book
@@ -52,10 +55,14 @@ changed after reply change = record { records = after; reply = reply; change = S
 abbrev pub has_file : Records → FileNo → Bool
 has_file r file = nat_lt file.0 (length r.files)
 
--- A known file stays as it is. A new one goes last, while there is room for it.
+-- what an import finds of the known file of number k
+abbrev pub known_status : List FileRow → ℕ → ImportStatus
+known_status rows k = if is_live rows k then imports.Known else imports.Deleted
+
+-- A known file stays as it is, deleted or not. A new one goes last, while there is room for it.
 abbrev pub import_at : Records → NewFile → Option ℕ → Outcome
 import_at r file (Some at) =
-    told r (replies.Imported (record { file = record { 0 = at }; status = imports.Known }))
+    told r (replies.Imported (record { file = record { 0 = at }; status = known_status r.files at }))
 import_at r file None =
     if nat_lt (length r.files) MAX_FILES then changed
     (record r { files = r.files ++ row_of file ∷ [] })
@@ -65,6 +72,25 @@ import_at r file None =
 
 unfoldable pub import : Records → NewFile → Outcome
 import r file = import_at r file (file_with file.sha r.files)
+
+-- A file is marked as live or as deleted, and keeps all else. Where it was marked so already, nothing changes.
+abbrev pub marked : Records → FileNo → Bool → Bool → Outcome
+marked r file live already =
+    if already then told r (replies.Changed false)
+    else changed
+    (record r { files = with_live_mark file.0 live r.files })
+    (replies.Changed true)
+    (changes.Live file live)
+
+unfoldable pub delete : Records → FileNo → Outcome
+delete r file =
+    if has_file r file then marked r file false (not (is_live r.files file.0))
+    else refused r refusals.UnknownFile
+
+unfoldable pub undelete : Records → FileNo → Outcome
+undelete r file =
+    if has_file r file then marked r file true (is_live r.files file.0)
+    else refused r refusals.UnknownFile
 
 -- A decision of two different files that are there is recorded, whether or not it has an effect.
 unfoldable pub decide : Records → Decision → Outcome
@@ -164,6 +190,8 @@ queues r = told r (replies.Queues (record { search = length (search_queue r); di
 
 unfoldable pub step : Records → Caller → Command → Outcome
 step r callers.Console (commands.Import file) = import r file
+step r callers.Console (commands.Delete file) = delete r file
+step r callers.Console (commands.Undelete file) = undelete r file
 step r callers.Console (commands.Decide d) = decide r d
 step r callers.Console (commands.Undo n) = undo r n
 step r callers.Console (commands.Relations file) = relations r file

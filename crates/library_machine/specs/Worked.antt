@@ -62,6 +62,14 @@ better_than = decide_of Better
 abbrev pub undo_of : ℕ → Command
 undo_of n = commands.Undo (record { 0 = n })
 
+-- the deletion of file k
+abbrev pub delete_of : ℕ → Command
+delete_of k = commands.Delete (file k)
+
+-- and what takes it back
+abbrev pub undelete_of : ℕ → Command
+undelete_of k = commands.Undelete (file k)
+
 -- the question how file k is related
 abbrev pub relations_of : ℕ → Command
 relations_of k = commands.Relations (file k)

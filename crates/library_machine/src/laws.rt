@@ -10,7 +10,7 @@ ghost use Rattle.media_base.specs.declared.command.Command.TheVariants as comman
 ghost use Rattle.media_base.specs.declared.refusal.Refusal.TheVariants as refusals;
 ghost use Rattle.library_machine.specs.Covering.{PairsCover, PagesCover, CountsCover};
 ghost use Rattle.library_machine.specs.Records.{Records, Fits, no_records};
-ghost use Rattle.library_machine.specs.Laws.{RefusalsChangeNothing, RefusedAnswersChangeNothing, NeverLacks, StepsKeepFit, AnswersKeepFit, ChangesAreTold, ChangesLead, RefusesImports, RefusesDecisions, RefusesUndoing, RefusesRelations, RefusesSearches, RefusesJobs, IsNeverRefused, WantsChange};
+ghost use Rattle.library_machine.specs.Laws.{RefusalsChangeNothing, RefusedAnswersChangeNothing, NeverLacks, StepsKeepFit, AnswersKeepFit, ChangesAreTold, ChangesLead, DeletionsAreTakenBack, RefusesImports, RefusesDecisions, RefusesUndoing, RefusesUnknownFiles, RefusesSearches, RefusesJobs, IsNeverRefused, WantsChange};
 
 /// A refused command changes nothing.
 pub fn refusals_change_nothing()
@@ -36,6 +36,7 @@ pub fn records_stay_fit()
     ensures after_an_answer { AnswersKeepFit }
 {
     file_records::laws();
+    file_records::live_laws();
     file_records::search_laws();
     file_records::near_laws();
     decision_book::laws();
@@ -46,7 +47,9 @@ pub fn refusals_have_causes()
     ensures imports { (r : Records) (caller : Caller) (file : NewFile) → RefusesImports r caller file }
     ensures decisions { (r : Records) (caller : Caller) (d : Decision) → RefusesDecisions r caller d }
     ensures undoing { (r : Records) (caller : Caller) (n : DecisionNo) → RefusesUndoing r caller n }
-    ensures relations { (r : Records) (caller : Caller) (file : FileNo) → RefusesRelations r caller file }
+    ensures deletions { (r : Records) (caller : Caller) (file : FileNo) → RefusesUnknownFiles commands.Delete r caller file }
+    ensures undeletions { (r : Records) (caller : Caller) (file : FileNo) → RefusesUnknownFiles commands.Undelete r caller file }
+    ensures relations { (r : Records) (caller : Caller) (file : FileNo) → RefusesUnknownFiles commands.Relations r caller file }
     ensures searches { (r : Records) (caller : Caller) (s : Searching) → RefusesSearches r caller s }
     ensures jobs { (r : Records) (caller : Caller) (n : ℕ) → RefusesJobs r caller n }
     ensures pairs { (page : PairPage) → IsNeverRefused (commands.Pairs page) }
@@ -67,7 +70,15 @@ pub fn changes_are_kept()
     ensures kept { WantsChange refusals.NotKept }
 {
     steps_never_lack();
+    file_records::live_laws();
     file_records::search_laws();
+}
+
+/// A file that was deleted comes back, and then the records are those from before its deletion.
+pub fn deletions_are_taken_back()
+    ensures { DeletionsAreTakenBack }
+{
+    file_records::live_laws();
 }
 
 /// Where no file waits to be searched, the potential pairs within the library's distance are those of all

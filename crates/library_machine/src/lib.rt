@@ -8,7 +8,7 @@ mod laws;
 mod worked;
 
 pub use laws::{
-    changes_are_kept, empty_queue_covers, records_stay_fit, refusals_change_nothing,
-    refusals_have_causes, steps_never_lack,
+    changes_are_kept, deletions_are_taken_back, empty_queue_covers, records_stay_fit,
+    refusals_change_nothing, refusals_have_causes, steps_never_lack,
 };
 pub use worked::worked_rows;

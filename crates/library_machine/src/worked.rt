@@ -1,15 +1,15 @@
-ghost use Rattle.std.specs.Prelude.{◌≡◌, [], ◌∷◌};
+ghost use Rattle.std.specs.Prelude.{◌≡◌, true, false, [], ◌∷◌};
 ghost use Rattle.media_types.specs.declared.decision.Code.TheVariants.{Alternates, NotRelated, Same};
 ghost use Rattle.media_base.specs.declared.command.Command.TheVariants.{PairCount as CountPairs, Queues, RebalanceJob, SearchDistance, SearchJob};
 ghost use Rattle.media_base.specs.declared.refusal.Refusal.TheVariants.{AlreadyUndone, SameFile, UnknownDecision, UnknownFile};
-ghost use Rattle.media_base.specs.declared.reply.ImportStatus.TheVariants.{New, Known};
-ghost use Rattle.media_base.specs.declared.reply.Reply.TheVariants.{Distance, PairCount, Rebalanced, Refused};
+ghost use Rattle.media_base.specs.declared.reply.ImportStatus.TheVariants.{New, Known, Deleted};
+ghost use Rattle.media_base.specs.declared.reply.Reply.TheVariants.{Changed, Distance, PairCount, Rebalanced, Refused};
 ghost use Rattle.library_machine.specs.Records.{no_records};
 ghost use Rattle.library_machine.specs.Session.{replies, replies_behind};
-ghost use Rattle.library_machine.specs.Worked.{decide_of, import_of, import_with, queued, pairs_from, pairs_behind, listed, search_of, searched, better_than, relations_of, undo_of, imported, decided, undone, grouped, standing};
+ghost use Rattle.library_machine.specs.Worked.{decide_of, import_of, import_with, queued, pairs_from, pairs_behind, listed, search_of, searched, better_than, delete_of, undelete_of, relations_of, undo_of, imported, decided, undone, grouped, standing};
 
 /// Small sessions whose replies can be followed by hand. The call does nothing.
-#[tactic(auto, unfolding(crate::specs::Step::step, crate::specs::Step::import, crate::specs::Step::decide, crate::specs::Step::undo, crate::specs::Step::relations, crate::specs::Step::set_distance, crate::specs::Step::search, crate::specs::Step::search_files, crate::specs::Step::search_job, crate::specs::Step::queues, file_records::specs::Searching::queue_of, file_records::specs::Searching::searched, file_records::specs::Searching::rising, file_records::specs::Near::near_at, spare_tables::specs::Pairs::pairs_below, potential_pairs::specs::Potential::potential_at, potential_pairs::specs::Pages::page_of, crate::specs::Step::pairs, crate::specs::Step::pair_count, relation_groups::specs::Relations::relations_at))]
+#[tactic(auto, unfolding(crate::specs::Step::step, crate::specs::Step::import, crate::specs::Step::delete, crate::specs::Step::undelete, crate::specs::Step::decide, crate::specs::Step::undo, crate::specs::Step::relations, crate::specs::Step::set_distance, crate::specs::Step::search, crate::specs::Step::search_files, crate::specs::Step::search_job, crate::specs::Step::queues, file_records::specs::Searching::queue_of, file_records::specs::Searching::searched, file_records::specs::Searching::rising, file_records::specs::Near::near_at, spare_tables::specs::Pairs::pairs_below, potential_pairs::specs::Potential::potential_at, potential_pairs::specs::Pages::page_of, crate::specs::Step::pairs, crate::specs::Step::pair_count, relation_groups::specs::Relations::relations_at))]
 pub fn worked_rows()
     ensures a_known_file_keeps_its_number { replies no_records (import_of 10 ∷ import_of 11 ∷ import_of 10 ∷ [])
         ≡ imported 0 New ∷ imported 1 New ∷ imported 0 Known ∷ [] }
@@ -87,6 +87,22 @@ pub fn worked_rows()
         (import_with 10 (0 ∷ []) ∷ import_with 11 (1 ∷ []) ∷ import_with 12 (3 ∷ []) ∷ SearchJob 3 ∷ better_than 0 1 ∷ [])
         (decide_of NotRelated 1 2 ∷ CountPairs 16 ∷ undo_of 1 ∷ pairs_from 10 16 ∷ [])
         ≡ decided 1 ∷ PairCount 0 ∷ undone 1 ∷ listed ((0, 2, 1) ∷ []) ∷ [] }
+    ensures known_and_deleted { replies no_records (import_of 10 ∷ import_of 10 ∷ delete_of 0 ∷ import_of 10 ∷ delete_of 0 ∷ undelete_of 0 ∷ import_of 10 ∷ undelete_of 0 ∷ [])
+        ≡ imported 0 New ∷ imported 0 Known ∷ Changed true ∷ imported 0 Deleted ∷ Changed false
+        ∷ Changed true ∷ imported 0 Known ∷ Changed false ∷ [] }
+    ensures no_such_file_to_delete { replies_behind (import_of 10 ∷ []) (delete_of 1 ∷ undelete_of 1 ∷ [])
+        ≡ Refused UnknownFile ∷ Refused UnknownFile ∷ [] }
+    ensures deleted_files_make_no_pair { replies_behind
+        (import_with 10 (0 ∷ []) ∷ import_with 11 (1 ∷ []) ∷ import_with 12 (3 ∷ []) ∷ SearchJob 3 ∷ better_than 0 1 ∷ [])
+        (delete_of 1 ∷ pairs_from 10 16 ∷ relations_of 0 ∷ undelete_of 1 ∷ pairs_from 10 16 ∷ [])
+        ≡ Changed true ∷ listed ((0, 2, 2) ∷ []) ∷ grouped 0 (0 ∷ 1 ∷ []) ∷ Changed true ∷ listed ((0, 2, 1) ∷ []) ∷ [] }
+
+    // A file that comes back waits again where it wasn't searched far enough.
+    ensures deleted_files_do_not_wait { replies_behind
+        (import_with 10 (0 ∷ []) ∷ import_with 11 (1 ∷ []) ∷ [])
+        (delete_of 1 ∷ Queues ∷ SearchJob 5 ∷ undelete_of 1 ∷ Queues ∷ delete_of 0 ∷ undelete_of 0 ∷ Queues ∷ [])
+        ≡ Changed true ∷ queued 1 ∷ searched 1 0 ∷ Changed true ∷ queued 1
+        ∷ Changed true ∷ Changed true ∷ queued 1 ∷ [] }
     ensures all_bits_differ { replies_behind
         (import_with 10 (0 ∷ []) ∷ import_with 11 (0xffffffffffffffff ∷ []) ∷ SearchDistance 16 ∷ [])
         (SearchJob 2 ∷ pairs_from 10 16 ∷ [])

@@ -4,7 +4,7 @@ use Rattle.library_machine.proofs.Lacking.{wants_change}
 use Rattle.library_machine.proofs.laws.changes_are_kept.Goals as goal
 
 pub returns-clause-told : goal.returns-clause-told
-returns-clause-told c = changes_are_told c.search_laws.ensures.changes
+returns-clause-told c = changes_are_told c.search_laws.ensures.changes c.live_laws.ensures.changes
 
 pub returns-clause-lead : goal.returns-clause-lead
 returns-clause-lead c = changes_lead c.search_laws.ensures.queue_known

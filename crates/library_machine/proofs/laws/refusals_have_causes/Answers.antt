@@ -1,8 +1,14 @@
-use Rattle.library_machine.proofs.Causes.{refuses_imports, refuses_decisions, refuses_undoing, refuses_relations, refuses_searches, refuses_jobs, never_refused_pairs, never_refused_pair_counts, never_refused_distances, never_refused_queues, never_refused_rebalancing}
+use Rattle.library_machine.proofs.Causes.{refuses_imports, refuses_deletions, refuses_undeletions, refuses_decisions, refuses_undoing, refuses_relations, refuses_searches, refuses_jobs, never_refused_pairs, never_refused_pair_counts, never_refused_distances, never_refused_queues, never_refused_rebalancing}
 use Rattle.library_machine.proofs.laws.refusals_have_causes.Goals as goal
 
 pub returns-clause-imports : goal.returns-clause-imports
 returns-clause-imports c = refuses_imports c.laws.ensures.not_found
+
+pub returns-clause-deletions : goal.returns-clause-deletions
+returns-clause-deletions c = refuses_deletions
+
+pub returns-clause-undeletions : goal.returns-clause-undeletions
+returns-clause-undeletions c = refuses_undeletions
 
 pub returns-clause-decisions : goal.returns-clause-decisions
 returns-clause-decisions c = refuses_decisions

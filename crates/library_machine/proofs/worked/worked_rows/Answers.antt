@@ -5,7 +5,8 @@ use Rattle.file_records.specs.Near.{near_at}
 use Rattle.file_records.specs.Searching.{queue_of, rising, searched}
 use Rattle.potential_pairs.specs.Pages.{page_of}
 use Rattle.potential_pairs.specs.Potential.{potential_at}
-use Rattle.library_machine.specs.Step.{import, decide, undo, search, search_job, set_distance, pairs, pair_count, queues, step}
+use Rattle.relation_groups.specs.Relations.{relations_at}
+use Rattle.library_machine.specs.Step.{import, delete, undelete, decide, undo, relations, search, search_job, set_distance, pairs, pair_count, queues, step}
 use Rattle.library_machine.proofs.FarApart.{far_apart}
 use Rattle.library_machine.proofs.worked.worked_rows.Goals as goal
 
@@ -28,6 +29,14 @@ returns-clause-alternates_are_no_pair c = refl
 pub returns-clause-not_related_groups_are_no_pair : goal.returns-clause-not_related_groups_are_no_pair
 unfolding step import decide undo search search_job set_distance queues pairs pair_count searched rising queue_of near_at pairs_below potential_at page_of ones ones_in
 returns-clause-not_related_groups_are_no_pair c = refl
+
+pub returns-clause-deleted_files_make_no_pair : goal.returns-clause-deleted_files_make_no_pair
+unfolding step import delete undelete decide relations relations_at search search_job pairs searched rising queue_of near_at pairs_below potential_at page_of ones ones_in
+returns-clause-deleted_files_make_no_pair c = refl
+
+pub returns-clause-deleted_files_do_not_wait : goal.returns-clause-deleted_files_do_not_wait
+unfolding step import delete undelete search search_job queues searched rising queue_of near_at pairs_below ones ones_in
+returns-clause-deleted_files_do_not_wait c = refl
 
 pub returns-clause-all_bits_differ : goal.returns-clause-all_bits_differ
 returns-clause-all_bits_differ c = far_apart
