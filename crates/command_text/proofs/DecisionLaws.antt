@@ -1,4 +1,4 @@
--- What a decision, an undo or a question for relations asks.
+-- What a decision or an undo asks.
 use Rattle.std.proofs.Common.{◌≡◌, ℕ, ◌^◌, ◌==◌, ◌⊎◌, inl, inr, Bool, true, false, cond, Some, None, option_and_then, Ok, refl, sym, ap, subst, ◌∙◌}
 use Rattle.std.proofs.lemmas.Bool.{eqb-true}
 use Rattle.serde_json.specs.Data.{Data}
@@ -9,8 +9,8 @@ use Rattle.media_types.specs.declared.numbers.DecisionNo.{DecisionNo}
 use Rattle.media_types.specs.declared.numbers.FileNo.{FileNo}
 use Rattle.media_base.specs.declared.command.Command.TheVariants as commands
 use Rattle.media_base.specs.declared.refusal.FieldName.TheVariants as fields
-use Rattle.command_text.specs.Reading.{number_of, asked_code, code_at, decision_of, decide_at, undo_at, relations_at}
-use Rattle.command_text.specs.Spelling.{HasNumber, HasCode, NamesFiles, Says, IsNamed, AsksDecide, AsksUndo, AsksRelations, HasForm, fields_of}
+use Rattle.command_text.specs.Reading.{number_of, asked_code, code_at, decision_of, decide_at, undo_at}
+use Rattle.command_text.specs.Spelling.{HasNumber, HasCode, NamesFiles, Says, IsNamed, AsksDecide, AsksUndo, HasForm, fields_of}
 use Rattle.command_text.specs.declared.asked_code.AskedCode.{AskedCode}
 use Rattle.command_text.specs.declared.asked_code.AskedCode.TheVariants as asked_codes
 use Rattle.command_text.specs.declared.command_name.CommandName.TheVariants as names
@@ -147,9 +147,6 @@ module _ (value : Data) where
   reads_decision : ReadsNumber value fields.Decision (2 ^ 32)
   reads_decision = reads_number value fields.Decision (2 ^ 32) (λ form. form) (λ form. form)
 
-  reads_file : ReadsNumber value fields.File (2 ^ 32)
-  reads_file = reads_number value fields.File (2 ^ 32) (λ form. form) (λ form. form)
-
 pub decide_explained : (value : Data) → IsNamed value names.Decide → Explained value (fields_of names.Decide) (decide_at value)
 unfolding decide_at
 decide_explained value asks =
@@ -178,12 +175,3 @@ undo_explained value asks =
 pub undo_at-asks : (value : Data) (decision : DecisionNo) → AsksUndo value decision → undo_at value ≡ Ok (commands.Undo decision)
 unfolding undo_at
 undo_at-asks value decision asks = rw ((reads_decision value).tells.good decision.0 asks.decision) refl
-
-pub relations_explained : (value : Data) → IsNamed value names.Relations → Explained value (fields_of names.Relations) (relations_at value)
-unfolding relations_at
-relations_explained value asks =
-    explained_next _ (reads_file value) (λ n is. explained_last value _ (record { asks = asks; file = is }))
-
-pub relations_at-asks : (value : Data) (file : FileNo) → AsksRelations value file → relations_at value ≡ Ok (commands.Relations file)
-unfolding relations_at
-relations_at-asks value file asks = rw ((reads_file value).tells.good file.0 asks.file) refl

@@ -9,7 +9,7 @@ use Rattle.serde_json.specs.View.{items_of}
 use Rattle.media_types.specs.declared.numbers.FileNo.{FileNo}
 use Rattle.media_base.specs.declared.refusal.FieldName.{FieldName}
 use Rattle.media_base.specs.declared.refusal.FieldName.TheVariants as fields
-use Rattle.command_text.specs.Reading.{field_of, text_of, number_of, list_of, each_of, below, text_at, whole_number_at, texts_of, hash_texts_of, hash_texts_at, file_in, files_of, files_at}
+use Rattle.command_text.specs.Reading.{field_of, text_of, number_of, list_of, each_of, below, text_at, whole_number_at, texts_of, hash_texts_of, hash_texts_at, file_in, file_at, files_of, files_at}
 use Rattle.command_text.specs.Spelling.{HasField, HasText, HasNumber, HasFiles, HasHashTexts, HasForm}
 use Rattle.command_text.proofs.Steps.{Reads, reads_formed}
 
@@ -139,7 +139,7 @@ each_of-spelled says spelled Fits back (x ∷ xs) fit =
     ap (λ (first : Option _). option_and_then (λ first. option_map (λ others. first ∷ others) (each_of says (items_of (map spelled xs)))) first) (back x (All-head Fits x xs fit))
     ∙ ap (option_map (λ others. x ∷ others)) (each_of-spelled says spelled Fits back xs (All-tail Fits x xs fit))
 
--- ---- a list of files
+-- ---- files
 
 abbrev file_data : FileNo → Data
 file_data file = number (unsigned file.0)
@@ -160,6 +160,18 @@ file_in-some value file e =
 
 file_in-spelled : (file : FileNo) → FileFits file → file_in (file_data file) ≡ Some file
 file_in-spelled file fits = ap (option_map (λ n. record { 0 = n })) (below-fits (2 ^ 32) file.0 fits)
+
+file_field-some : (value : Data) (file : FileNo) → option_and_then file_in (field_of fields.File value) ≡ Some file → HasNumber value fields.File (2 ^ 32) file.0
+file_field-some value file e =
+    let p = then_some file_in (field_of fields.File value) file e in
+    let spelled = file_in-some p.0 file p.2 in
+    record { is = p.1 ∙ ap Some spelled.0; fits = spelled.1 }
+
+pub reads_file : (value : Data) → Reads value fields.File (file_at value) (λ file. HasNumber value fields.File (2 ^ 32) file.0)
+unfolding file_at
+reads_file value =
+    reads_formed value fields.File (option_and_then file_in (field_of fields.File value)) (λ file. HasNumber value fields.File (2 ^ 32) file.0) (file_field-some value)
+    (λ file has. ap (option_and_then file_in) has.is ∙ file_in-spelled file has.fits) (λ form. (record { 0 = form.0 }, form.1)) (λ file has. (file.0, has))
 
 files_in-some : (name : FieldName) (value : Data) (files : List FileNo) → option_and_then files_of (list_of name value) ≡ Some files → HasFiles value name files
 files_in-some name value files e =

@@ -2,6 +2,7 @@ mod DecisionLaws
 mod DigitLaws
 mod EachLaws
 mod FieldLaws
+mod FileLaws
 mod FirstItem
 mod HexNumbers
 mod ImportLaws

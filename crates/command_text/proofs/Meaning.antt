@@ -7,16 +7,18 @@ use Rattle.media_base.specs.declared.refusal.FieldName.{FieldName}
 use Rattle.media_base.specs.declared.refusal.Refusal.{Refusal}
 use Rattle.media_base.specs.declared.refusal.Refusal.TheVariants as refusals
 use Rattle.command_text.specs.Reading.{◌>>=◌}
-use Rattle.command_text.specs.Spelling.{IsNamed, AsksImport, AsksDecide, AsksUndo, AsksRelations, AsksPairs, AsksPairCount, AsksSearchDistance, AsksSearchJob, AsksSearchFiles, HasForm, IsFirstOf, IsFirstFault, HasBadHash, HasTooManyHashes, HasBadDistance, HasBadNumber}
+use Rattle.command_text.specs.Spelling.{IsNamed, AsksImport, AsksFile, AsksDecide, AsksUndo, AsksPairs, AsksPairCount, AsksSearchDistance, AsksSearchJob, AsksSearchFiles, HasForm, IsFirstOf, IsFirstFault, HasBadHash, HasTooManyHashes, HasBadDistance, HasBadNumber}
 use Rattle.command_text.specs.declared.command_name.CommandName.TheVariants as names
 use Rattle.command_text.proofs.Steps.{Tells, Reads}
 
 -- The value asks this command.
 abbrev pub Asks : Data → Command → Type 0
 Asks value (commands.Import file) = AsksImport value file
+Asks value (commands.Delete file) = AsksFile value names.Delete file
+Asks value (commands.Undelete file) = AsksFile value names.Undelete file
 Asks value (commands.Decide decision) = AsksDecide value decision
 Asks value (commands.Undo decision) = AsksUndo value decision
-Asks value (commands.Relations file) = AsksRelations value file
+Asks value (commands.Relations file) = AsksFile value names.Relations file
 Asks value (commands.Pairs page) = AsksPairs value page
 Asks value (commands.PairCount distance) = AsksPairCount value distance
 Asks value (commands.SearchDistance distance) = AsksSearchDistance value distance

@@ -13,7 +13,7 @@ use Rattle.command_text.proofs.Steps.{Reads, reads_formed}
 
 -- the names, in the order in which they are tried
 abbrev all_names : List CommandName
-all_names = names.Import ∷ names.Decide ∷ names.Undo ∷ names.Relations ∷ names.Pairs ∷ names.PairCount ∷ names.SearchDistance ∷ names.SearchJob ∷ names.SearchFiles ∷ names.Queues ∷ names.RebalanceJob ∷ []
+all_names = names.Import ∷ names.Delete ∷ names.Undelete ∷ names.Decide ∷ names.Undo ∷ names.Relations ∷ names.Pairs ∷ names.PairCount ∷ names.SearchDistance ∷ names.SearchJob ∷ names.SearchFiles ∷ names.Queues ∷ names.RebalanceJob ∷ []
 
 abbrev first_of : List CommandName → List ℕ → Option CommandName
 first_of [] text = None
@@ -38,6 +38,8 @@ first_of-some (first ∷ names) text name e =
 name_of-text : (name : CommandName) → name_of (name_text name) ≡ Some name
 unfolding name_of
 name_of-text names.Import = refl
+name_of-text names.Delete = refl
+name_of-text names.Undelete = refl
 name_of-text names.Decide = refl
 name_of-text names.Undo = refl
 name_of-text names.Relations = refl

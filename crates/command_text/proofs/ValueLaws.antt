@@ -11,7 +11,8 @@ use Rattle.command_text.specs.Reading.{◌>>=◌, name_at, command_at, value_com
 use Rattle.command_text.specs.Spelling.{IsNamed, fields_of, IsFirstFault, of_none, of_command, HasBadDistance, far_pairs, far_pair_count, far_search_distance, far_search_files, HasBadNumber, wrong_pairs, wrong_search_job, wrong_search_files}
 use Rattle.command_text.specs.declared.command_name.CommandName.{CommandName}
 use Rattle.command_text.specs.declared.command_name.CommandName.TheVariants as names
-use Rattle.command_text.proofs.DecisionLaws.{decide_explained, decide_at-asks, undo_explained, undo_at-asks, relations_explained, relations_at-asks}
+use Rattle.command_text.proofs.DecisionLaws.{decide_explained, decide_at-asks, undo_explained, undo_at-asks}
+use Rattle.command_text.proofs.FileLaws.{file_explained, file_command_at-asks}
 use Rattle.command_text.proofs.ImportLaws.{import_explained, import_at-asks, import_at-bad_hash, import_at-too_many}
 use Rattle.command_text.proofs.Meaning.{Asks, Earns, Means, blamed, Explained, explained_last}
 use Rattle.command_text.proofs.NameLaws.{reads_name}
@@ -20,9 +21,11 @@ use Rattle.command_text.proofs.SearchLaws.{search_distance_explained, search_dis
 
 explained : (value : Data) (name : CommandName) → IsNamed value name → Explained value (fields_of name) (command_at name value)
 explained value names.Import asks = import_explained value asks
+explained value names.Delete asks = file_explained value names.Delete commands.Delete (λ file asked. asked) asks
+explained value names.Undelete asks = file_explained value names.Undelete commands.Undelete (λ file asked. asked) asks
 explained value names.Decide asks = decide_explained value asks
 explained value names.Undo asks = undo_explained value asks
-explained value names.Relations asks = relations_explained value asks
+explained value names.Relations asks = file_explained value names.Relations commands.Relations (λ file asked. asked) asks
 explained value names.Pairs asks = pairs_explained value asks
 explained value names.PairCount asks = pair_count_explained value asks
 explained value names.SearchDistance asks = search_distance_explained value asks
@@ -50,9 +53,11 @@ means value =
 
 asked : (value : Data) (command : Command) → Asks value command → value_command value ≡ Ok command
 asked value (commands.Import file) asks = named value names.Import asks.asks ∙ import_at-asks value file asks
+asked value (commands.Delete file) asks = named value names.Delete asks.asks ∙ file_command_at-asks value names.Delete commands.Delete file asks
+asked value (commands.Undelete file) asks = named value names.Undelete asks.asks ∙ file_command_at-asks value names.Undelete commands.Undelete file asks
 asked value (commands.Decide decision) asks = named value names.Decide asks.asks ∙ decide_at-asks value decision asks
 asked value (commands.Undo decision) asks = named value names.Undo asks.asks ∙ undo_at-asks value decision asks
-asked value (commands.Relations file) asks = named value names.Relations asks.asks ∙ relations_at-asks value file asks
+asked value (commands.Relations file) asks = named value names.Relations asks.asks ∙ file_command_at-asks value names.Relations commands.Relations file asks
 asked value (commands.Pairs page) asks = named value names.Pairs asks.asks ∙ pairs_at-asks value page asks
 asked value (commands.PairCount distance) asks = named value names.PairCount asks.asks ∙ pair_count_at-asks value distance asks
 asked value (commands.SearchDistance distance) asks = named value names.SearchDistance asks.asks ∙ search_distance_at-asks value distance asks

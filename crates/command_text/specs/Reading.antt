@@ -141,6 +141,16 @@ abbrev pub decision_of : AskedCode → FileNo → FileNo → Decision
 decision_of (asked_codes.As code) a b = record { code = code; a = a; b = b }
 decision_of asked_codes.Worse a b = record { code = codes_of.Better; a = b; b = a }
 
+-- ---- the field of a file
+
+-- a whole number below 2 ^ 32
+abbrev pub file_in : Data → Option FileNo
+file_in value = option_map (λ n. record { 0 = n }) (option_and_then (below (2 ^ 32)) (option_and_then as_u64 (as_number value)))
+
+-- a file's number
+unfoldable pub file_at : Data → Result FileNo Refusal
+file_at value = formed fields.File (option_and_then file_in (field_of fields.File value))
+
 -- ---- the fields of a search
 
 -- a distance within which files are searched
@@ -150,9 +160,6 @@ distance_of n = if nat_le n MAX_DISTANCE then Ok n else Err refusals.BadDistance
 -- a number of things to do at once
 unfoldable pub batch_of : ℕ → Result ℕ Refusal
 batch_of n = if nat_le 1 n && nat_le n MAX_BATCH then Ok n else Err refusals.BadNumber
-
-abbrev pub file_in : Data → Option FileNo
-file_in value = option_map (λ n. record { 0 = n }) (option_and_then (below (2 ^ 32)) (option_and_then as_u64 (as_number value)))
 
 abbrev pub files_of : Items → Option (List FileNo)
 files_of items = each_of file_in items
@@ -197,6 +204,12 @@ import_at value = do
   hashes ← few_hashes words
   Ok (commands.Import (record { sha = sha; hashes = hashes; size = size; width = width; height = height }))
 
+-- what is asked of one file
+abbrev pub file_command_at : (FileNo → Command) → Data → Result Command Refusal
+file_command_at asked value = do
+  file ← file_at value
+  Ok (asked file)
+
 unfoldable pub decide_at : Data → Result Command Refusal
 decide_at value = do
   code ← code_at value
@@ -208,11 +221,6 @@ unfoldable pub undo_at : Data → Result Command Refusal
 undo_at value = do
   decision ← whole_number_at fields.Decision (2 ^ 32) value
   Ok (commands.Undo (record { 0 = decision }))
-
-unfoldable pub relations_at : Data → Result Command Refusal
-relations_at value = do
-  file ← whole_number_at fields.File (2 ^ 32) value
-  Ok (commands.Relations (record { 0 = file }))
 
 -- The distance is tested before the number of pairs.
 unfoldable pub pairs_at : Data → Result Command Refusal
@@ -255,6 +263,8 @@ search_files_at value = do
 unfoldable pub name_of : List ℕ → Option CommandName
 name_of text =
     if bytes_eq text (codes "import") then Some names.Import
+    else if bytes_eq text (codes "delete") then Some names.Delete
+    else if bytes_eq text (codes "undelete") then Some names.Undelete
     else if bytes_eq text (codes "decide") then Some names.Decide
     else if bytes_eq text (codes "undo") then Some names.Undo
     else if bytes_eq text (codes "relations") then Some names.Relations
@@ -274,9 +284,11 @@ name_at value = formed fields.Do (option_and_then name_of (text_of fields.Do val
 -- what the value asks of the command of this name
 abbrev pub command_at : CommandName → Data → Result Command Refusal
 command_at names.Import value = import_at value
+command_at names.Delete value = file_command_at commands.Delete value
+command_at names.Undelete value = file_command_at commands.Undelete value
 command_at names.Decide value = decide_at value
 command_at names.Undo value = undo_at value
-command_at names.Relations value = relations_at value
+command_at names.Relations value = file_command_at commands.Relations value
 command_at names.Pairs value = pairs_at value
 command_at names.PairCount value = pair_count_at value
 command_at names.SearchDistance value = search_distance_at value

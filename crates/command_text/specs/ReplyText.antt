@@ -1,5 +1,5 @@
 -- The text of each reply, byte for byte.
-use Rattle.std.specs.Prelude.{ℕ, List, [], ◌∷◌, ◌++◌, codes, decimal}
+use Rattle.std.specs.Prelude.{ℕ, Bool, true, false, List, [], ◌∷◌, ◌++◌, codes, decimal}
 use Rattle.std.specs.List.{flat_map}
 use Rattle.media_types.specs.declared.file_relations.FileRelations.{FileRelations}
 use Rattle.media_types.specs.declared.numbers.DecisionNo.{DecisionNo}
@@ -15,6 +15,11 @@ use Rattle.media_base.specs.Names.{field_text, import_number}
 
 unfoldable pub imported_text : Imported → List ℕ
 imported_text found = codes "{\"file\":" ++ (decimal found.file.0 ++ (codes ",\"status\":" ++ (decimal (import_number found.status) ++ codes "}")))
+
+-- whether anything changed
+unfoldable pub changed_text : Bool → List ℕ
+changed_text true = codes "{\"changed\":true}"
+changed_text false = codes "{\"changed\":false}"
 
 unfoldable pub decided_text : DecisionNo → List ℕ
 decided_text decision = codes "{\"decision\":" ++ (decimal decision.0 ++ codes "}")
@@ -131,6 +136,7 @@ refused_text refusal = codes "{\"error\":\"" ++ (refusal_name refusal ++ (blamed
 
 unfoldable pub reply_text : Reply → List ℕ
 reply_text (replies.Imported found) = imported_text found
+reply_text (replies.Changed changed) = changed_text changed
 reply_text (replies.Decided decision) = decided_text decision
 reply_text (replies.Undone decision) = undone_text decision
 reply_text (replies.Relations relations) = relations_text relations

@@ -124,6 +124,8 @@ pub record HasHashes (value : Data) (words : List Hash64) : Type 0 where
 -- as `do` has it
 abbrev pub name_text : CommandName → List ℕ
 name_text names.Import = codes "import"
+name_text names.Delete = codes "delete"
+name_text names.Undelete = codes "undelete"
 name_text names.Decide = codes "decide"
 name_text names.Undo = codes "undo"
 name_text names.Relations = codes "relations"
@@ -146,6 +148,11 @@ pub record AsksImport (value : Data) (file : NewFile) : Type 0 where
   pub size : HasNumber value fields.Size (2 ^ 64) file.size
   pub width : HasNumber value fields.Width (2 ^ 32) file.width
   pub height : HasNumber value fields.Height (2 ^ 32) file.height
+
+-- `do` is the command's name, and `file` is this file.
+pub record AsksFile (value : Data) (name : CommandName) (asked : FileNo) : Type 0 where
+  pub asks : IsNamed value name
+  pub file : HasNumber value fields.File (2 ^ 32) asked.0
 
 -- The field `code` is this number.
 abbrev pub HasCode : Data → ℕ → Type 0
@@ -171,10 +178,6 @@ pub record AsksDecide (value : Data) (decision : Decision) : Type 0 where
 pub record AsksUndo (value : Data) (asked : DecisionNo) : Type 0 where
   pub asks : IsNamed value names.Undo
   pub decision : HasNumber value fields.Decision (2 ^ 32) asked.0
-
-pub record AsksRelations (value : Data) (asked : FileNo) : Type 0 where
-  pub asks : IsNamed value names.Relations
-  pub file : HasNumber value fields.File (2 ^ 32) asked.0
 
 pub record AsksPairs (value : Data) (asked : PairPage) : Type 0 where
   pub asks : IsNamed value names.Pairs
@@ -231,6 +234,8 @@ HasForm value fields.AtMost = (n : ℕ) × HasNumber value fields.AtMost (2 ^ 64
 -- the fields of each command, in their order
 abbrev pub fields_of : CommandName → List FieldName
 fields_of names.Import = fields.Sha256 ∷ fields.Hashes ∷ fields.Size ∷ fields.Width ∷ fields.Height ∷ []
+fields_of names.Delete = fields.File ∷ []
+fields_of names.Undelete = fields.File ∷ []
 fields_of names.Decide = fields.Code ∷ fields.A ∷ fields.B ∷ []
 fields_of names.Undo = fields.Decision ∷ []
 fields_of names.Relations = fields.File ∷ []
@@ -310,6 +315,12 @@ pub data HasBadNumber (value : Data) : Type 0 where
 abbrev pub SpellsImport : List ℕ → NewFile → Type 0
 SpellsImport line file = Spells line (λ value. AsksImport value file)
 
+abbrev pub SpellsDelete : List ℕ → FileNo → Type 0
+SpellsDelete line file = Spells line (λ value. AsksFile value names.Delete file)
+
+abbrev pub SpellsUndelete : List ℕ → FileNo → Type 0
+SpellsUndelete line file = Spells line (λ value. AsksFile value names.Undelete file)
+
 abbrev pub SpellsDecide : List ℕ → Decision → Type 0
 SpellsDecide line decision = Spells line (λ value. AsksDecide value decision)
 
@@ -317,7 +328,7 @@ abbrev pub SpellsUndo : List ℕ → DecisionNo → Type 0
 SpellsUndo line decision = Spells line (λ value. AsksUndo value decision)
 
 abbrev pub SpellsRelations : List ℕ → FileNo → Type 0
-SpellsRelations line file = Spells line (λ value. AsksRelations value file)
+SpellsRelations line file = Spells line (λ value. AsksFile value names.Relations file)
 
 abbrev pub SpellsPairs : List ℕ → PairPage → Type 0
 SpellsPairs line page = Spells line (λ value. AsksPairs value page)

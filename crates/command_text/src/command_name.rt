@@ -5,6 +5,8 @@ ghost use Rattle.command_text.specs.Reading.{name_of};
 #[derive(Clone, Copy)]
 pub enum CommandName {
     Import,
+    Delete,
+    Undelete,
     Decide,
     Undo,
     Relations,
@@ -25,6 +27,8 @@ impl CommandName {
     {
         match text {
             "import" => Some(CommandName::Import),
+            "delete" => Some(CommandName::Delete),
+            "undelete" => Some(CommandName::Undelete),
             "decide" => Some(CommandName::Decide),
             "undo" => Some(CommandName::Undo),
             "relations" => Some(CommandName::Relations),

@@ -1,7 +1,7 @@
-//! Decisions, and what is asked of relations.
+//! Decisions, and their undoing.
 
 ghost use Rattle.serde_json.specs.View.{view};
-ghost use Rattle.command_text.specs.Reading.{Gives, code_at, decide_at, undo_at, relations_at};
+ghost use Rattle.command_text.specs.Reading.{Gives, code_at, decide_at, undo_at};
 
 use crate::asked_code::AskedCode;
 use crate::fields::{number, small_number};
@@ -33,12 +33,4 @@ pub fn undo_of(request: &Value) -> Result<Command, Refusal>
 {
     let decision = small_number(request, FieldName::Decision)?;
     Ok(Command::Undo(DecisionNo(decision)))
-}
-
-#[tactic(auto, unfolding(crate::specs::Reading::relations_at))]
-pub fn relations_of(request: &Value) -> Result<Command, Refusal>
-    ensures { Gives result (relations_at (view request.now)) }
-{
-    let file = small_number(request, FieldName::File)?;
-    Ok(Command::Relations(FileNo(file)))
 }

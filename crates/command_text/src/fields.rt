@@ -4,7 +4,7 @@ ghost use Rattle.std.specs.Prelude.{◌≡◌, ◌^◌, map, option_map};
 ghost use Rattle.std.specs.Option.{is_none};
 ghost use Rattle.serde_json.specs.Find.{as_array};
 ghost use Rattle.serde_json.specs.View.{view, items_view};
-ghost use Rattle.command_text.specs.Reading.{Gives, GivesAs, field_of, text_of, number_of, list_of, texts_of, files_of, file_in, formed, whole_number_at, hash_texts_at, files_at};
+ghost use Rattle.command_text.specs.Reading.{Gives, GivesAs, field_of, text_of, number_of, list_of, texts_of, files_of, file_in, file_at, formed, whole_number_at, hash_texts_at, files_at};
 ghost use Rattle.media_base.specs.declared.refusal.FieldName.TheVariants as fields;
 
 use media_base::{FieldName, FileList, FileNo, Listed, Refusal};
@@ -47,6 +47,17 @@ pub fn small_number(request: &Value, name: FieldName) -> Result<u32, Refusal>
         Some(value) if value <= u64::from(u32::MAX) => Ok(value as u32),
         _ => Err(Refusal::NotARequest(name)),
     }
+}
+
+/// The number of `file`.
+#[tactic(auto, unfolding(crate::specs::Reading::file_at))]
+pub fn file(request: &Value) -> Result<FileNo, Refusal>
+    ensures { Gives result (file_at (view request.now)) }
+{
+    request
+        .get(FieldName::File.text())
+        .and_then(file_in)
+        .ok_or(Refusal::NotARequest(FieldName::File))
 }
 
 /// The texts of `hashes`, none where the field is missing.

@@ -13,12 +13,16 @@ ghost use Rattle.media_base.specs.declared.refusal.Refusal.{Refusal};
 ghost use Rattle.media_base.specs.declared.refusal.Refusal.TheVariants as refusals;
 ghost use Rattle.command_text.specs.Reading.{line_command};
 ghost use Rattle.command_text.specs.declared.request.TheConstants.{MAX_LINE};
-ghost use Rattle.command_text.specs.Spelling.{IsNoJson, IsOfReading, SpellsBadDistance, SpellsBadHash, SpellsBadNumber, SpellsDecide, SpellsFault, SpellsImport, SpellsPairCount, SpellsPairs, SpellsQueues, SpellsRebalanceJob, SpellsRelations, SpellsSearchDistance, SpellsSearchFiles, SpellsSearchJob, SpellsTooManyHashes, SpellsUndo};
+ghost use Rattle.command_text.specs.Spelling.{IsNoJson, IsOfReading, SpellsBadDistance, SpellsBadHash, SpellsBadNumber, SpellsDecide, SpellsDelete, SpellsFault, SpellsImport, SpellsPairCount, SpellsPairs, SpellsQueues, SpellsRebalanceJob, SpellsRelations, SpellsSearchDistance, SpellsSearchFiles, SpellsSearchJob, SpellsTooManyHashes, SpellsUndelete, SpellsUndo};
 
 /// A line is read as a command exactly where it spells the command.
 pub fn spelling_laws()
     ensures import { (line : List ℕ) (file : NewFile)
         → (line_command line ≡ Ok (commands.Import file)) ↔ SpellsImport line file }
+    ensures delete { (line : List ℕ) (file : FileNo)
+        → (line_command line ≡ Ok (commands.Delete file)) ↔ SpellsDelete line file }
+    ensures undelete { (line : List ℕ) (file : FileNo)
+        → (line_command line ≡ Ok (commands.Undelete file)) ↔ SpellsUndelete line file }
     ensures decide { (line : List ℕ) (decision : Decision)
         → (line_command line ≡ Ok (commands.Decide decision)) ↔ SpellsDecide line decision }
     ensures undo { (line : List ℕ) (decision : DecisionNo)

@@ -3,7 +3,7 @@
 ghost use Rattle.std.specs.Prelude.{◌≡◌, ◌++◌, ◌+◌, ◌-◌, ◌^◌, min, length, decimal};
 ghost use Rattle.std.specs.List.{flat_map};
 ghost use Rattle.media_base.specs.Names.{import_number};
-ghost use Rattle.command_text.specs.ReplyText.{imported_text, decided_text, undone_text, distance_text, searched_text, queues_text, done_text, king_text, label_text, next_text, file_text, pair_text, pair_count_text, refusal_name, blamed_text, refused_text};
+ghost use Rattle.command_text.specs.ReplyText.{imported_text, changed_text, decided_text, undone_text, distance_text, searched_text, queues_text, done_text, king_text, label_text, next_text, file_text, pair_text, pair_count_text, refusal_name, blamed_text, refused_text};
 
 use itoa::Buffer;
 use media_base::{
@@ -34,6 +34,18 @@ fn status_digit(status: ImportStatus) -> &'static [u8]
     match status {
         ImportStatus::New => b"1",
         ImportStatus::Known => b"2",
+        ImportStatus::Deleted => b"3",
+    }
+}
+
+#[tactic(auto, unfolding(crate::specs::ReplyText::changed_text))]
+pub fn changed_pieces(changed: bool) -> [&'static [u8]; 1]
+    ensures { flat_map (λ piece. piece.now) result ≡ changed_text changed }
+{
+    if changed {
+        [b"{\"changed\":true}"]
+    } else {
+        [b"{\"changed\":false}"]
     }
 }
 

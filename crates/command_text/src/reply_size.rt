@@ -4,9 +4,9 @@ ghost use Rattle.command_text.specs.ReplyText.{following_text, joined_text, next
 
 use crate::named_list::{NamedList, named_lists};
 use crate::pieces::{
-    Pair, decided_pieces, distance_pieces, done_pieces, following_pieces, imported_pieces,
-    king_pieces, label_pieces, pair_count_pieces, pair_pieces, pieces_len, queues_pieces,
-    refused_pieces, searched_pieces, undone_pieces,
+    Pair, changed_pieces, decided_pieces, distance_pieces, done_pieces, following_pieces,
+    imported_pieces, king_pieces, label_pieces, pair_count_pieces, pair_pieces, pieces_len,
+    queues_pieces, refused_pieces, searched_pieces, undone_pieces,
 };
 use itoa::Buffer;
 use media_base::{FileNo, FileRelations, Reply};
@@ -20,6 +20,7 @@ pub fn reply_len(reply: &Reply) -> u64
     let mut second = Buffer::new();
     match reply {
         Reply::Imported(found) => pieces_len(&imported_pieces(found, &mut digits)),
+        Reply::Changed(changed) => pieces_len(&changed_pieces(*changed)),
         Reply::Decided(decision) => pieces_len(&decided_pieces(*decision, &mut digits)),
         Reply::Undone(decision) => pieces_len(&undone_pieces(*decision, &mut digits)),
         Reply::Relations(relations) => relations_len(relations),

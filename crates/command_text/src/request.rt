@@ -3,8 +3,8 @@ ghost use Rattle.serde_json.specs.View.{view};
 ghost use Rattle.command_text.specs.Reading.{Gives, name_at, value_command, text_command, line_command};
 
 use crate::command_name::CommandName;
-use crate::decisions::{decide_of, relations_of, undo_of};
-use crate::fields::text;
+use crate::decisions::{decide_of, undo_of};
+use crate::fields::{file, text};
 use crate::import::import_of;
 use crate::pairs::{pair_count_of, pairs_of};
 use crate::searches::{search_distance_of, search_files_of, search_job_of};
@@ -56,9 +56,11 @@ fn command_of(alloc: Global, request: &Value) -> Result<Command, Refusal>
 {
     match name_of(request)? {
         CommandName::Import => import_of(alloc, request),
+        CommandName::Delete => Ok(Command::Delete(file(request)?)),
+        CommandName::Undelete => Ok(Command::Undelete(file(request)?)),
         CommandName::Decide => decide_of(request),
         CommandName::Undo => undo_of(request),
-        CommandName::Relations => relations_of(request),
+        CommandName::Relations => Ok(Command::Relations(file(request)?)),
         CommandName::Pairs => pairs_of(request),
         CommandName::PairCount => pair_count_of(request),
         CommandName::SearchDistance => search_distance_of(request),

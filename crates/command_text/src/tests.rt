@@ -1,4 +1,5 @@
 mod decisions;
+mod files;
 mod imports;
 mod pairs;
 mod replies;
@@ -44,19 +45,9 @@ fn faulty_lines_are_refused(rt: HostRuntime) {
             "{\"do\":\"decide\",\"a\":1,\"b\":2}",
             Refusal::NotARequest(FieldName::Code),
         ),
-        (
-            "{\"do\":\"relations\"}",
-            Refusal::NotARequest(FieldName::File),
-        ),
-        (
-            "{\"do\":\"relations\",\"file\":-0}",
-            Refusal::NotARequest(FieldName::File),
-        ),
-        (
-            "{\"do\":\"relations\",\"file\":1,\"file\":null}",
-            Refusal::NotARequest(FieldName::File),
-        ),
         ("{\"do\":\"undone\",\"decision\":1}", no_request),
+        ("{\"do\":\"deleted\",\"file\":1}", no_request),
+        ("{\"do\":\"Undelete\",\"file\":1}", no_request),
     ];
     for (line, want) in cases {
         assert_refused(&rt, rt.alloc(), line.as_bytes(), want);

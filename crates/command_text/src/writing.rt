@@ -6,9 +6,9 @@ ghost use Rattle.command_text.specs.ReplyText.{following_text, joined_text, next
 
 use crate::named_list::{NamedList, named_lists};
 use crate::pieces::{
-    Pair, decided_pieces, distance_pieces, done_pieces, following_pieces, imported_pieces,
-    king_pieces, label_pieces, pair_count_pieces, pair_pieces, queues_pieces, refused_pieces,
-    searched_pieces, undone_pieces,
+    Pair, changed_pieces, decided_pieces, distance_pieces, done_pieces, following_pieces,
+    imported_pieces, king_pieces, label_pieces, pair_count_pieces, pair_pieces, queues_pieces,
+    refused_pieces, searched_pieces, undone_pieces,
 };
 use itoa::Buffer;
 use media_base::{Failed, FileNo, FileRelations, Gather, Reply, Sink};
@@ -59,6 +59,7 @@ fn put_reply<W: Sink>(reply: &Reply, gather: &mut Gather, sink: &mut W) -> Resul
     let mut second = Buffer::new();
     match reply {
         Reply::Imported(found) => gather.put_all(&imported_pieces(found, &mut digits), sink),
+        Reply::Changed(changed) => gather.put_all(&changed_pieces(*changed), sink),
         Reply::Decided(decision) => gather.put_all(&decided_pieces(*decision, &mut digits), sink),
         Reply::Undone(decision) => gather.put_all(&undone_pieces(*decision, &mut digits), sink),
         Reply::Relations(relations) => put_relations(relations, gather, sink),

@@ -70,17 +70,12 @@ fn decisions_are_read(rt: HostRuntime) -> Result<(), Fail> {
 }
 
 #[test]
-fn undos_and_questions_are_read(rt: HostRuntime) -> Result<(), Fail> {
+fn undos_are_read(rt: HostRuntime) -> Result<(), Fail> {
     for number in [0, 7, u32::MAX] {
         let undo = format!(in rt.alloc(); "{{\"decision\":{number},\"do\":\"undo\"}}")?;
         match read_line(rt.alloc(), undo.as_bytes())? {
             Command::Undo(decision) => assert_eq!(rt; decision, DecisionNo(number)),
             _ => panic!(rt; "no undo: {undo}"),
-        }
-        let asked = format!(in rt.alloc(); "{{\"file\":{number},\"do\":\"relations\"}}")?;
-        match read_line(rt.alloc(), asked.as_bytes())? {
-            Command::Relations(file) => assert_eq!(rt; file, FileNo(number)),
-            _ => panic!(rt; "no question: {asked}"),
         }
     }
     Ok(())

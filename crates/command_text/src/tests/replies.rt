@@ -39,6 +39,12 @@ fn changes_are_answered(rt: HostRuntime) -> Result<(), Fail> {
             imported(999_999, ImportStatus::Known),
             "{\"file\":999999,\"status\":2}",
         ),
+        (
+            imported(0, ImportStatus::Deleted),
+            "{\"file\":0,\"status\":3}",
+        ),
+        (Reply::Changed(true), "{\"changed\":true}"),
+        (Reply::Changed(false), "{\"changed\":false}"),
         (Reply::Decided(DecisionNo(10)), "{\"decision\":10}"),
         (Reply::Undone(DecisionNo(0)), "{\"undone\":0}"),
         (

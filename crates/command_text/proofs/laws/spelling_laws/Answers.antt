@@ -6,6 +6,12 @@ use Rattle.command_text.proofs.laws.spelling_laws.Goals as goal
 pub returns-clause-import : goal.returns-clause-import
 returns-clause-import c = λ line file. line_law line (Ok (commands.Import file))
 
+pub returns-clause-delete : goal.returns-clause-delete
+returns-clause-delete c = λ line file. line_law line (Ok (commands.Delete file))
+
+pub returns-clause-undelete : goal.returns-clause-undelete
+returns-clause-undelete c = λ line file. line_law line (Ok (commands.Undelete file))
+
 pub returns-clause-decide : goal.returns-clause-decide
 returns-clause-decide c = λ line decision. line_law line (Ok (commands.Decide decision))
 
