@@ -9,10 +9,11 @@ use Rattle.media_base.specs.declared.command.Caller.TheVariants.{Console}
 use Rattle.media_base.specs.declared.command.Command.{Command}
 use Rattle.media_base.specs.declared.command.Command.TheVariants as commands
 use Rattle.media_base.specs.declared.refusal.Refusal.TheVariants as refusals
+use Rattle.file_records.specs.Living.{is_live}
 use Rattle.file_records.specs.Searching.{rising}
 use Rattle.vp_tree.specs.declared.node.NodeView.{NodeView}
 use Rattle.library_machine.specs.Records.{Records}
-use Rattle.library_machine.specs.Step.{Outcome, after_search, changed, counts, has_file, has_room_for_near, next_search, pairs, refused, search, search_files, search_job, search_of, step}
+use Rattle.library_machine.specs.Step.{Outcome, after_search, changed, counts, delete, has_file, undelete, marked, has_room_for_near, next_search, pairs, refused, search, search_files, search_job, search_of, step}
 use Rattle.library_core.specs.Counting.{IsWithin, most_reads}
 use Rattle.library_core.specs.Tables.{words_brought}
 
@@ -22,6 +23,7 @@ BringsNone r o = (change : Change) → o.change ≡ Some change → words_brough
 
 searched_one : (r : Records) (s : Searching) (change : Change) → Some (changes.Searched s) ≡ Some change → words_brought r (Some change) ≡ []
 searched_one r s (changes.File file) is = absurd (cc is)
+searched_one r s (changes.Live file live) is = refl
 searched_one r s (changes.Decision d) is = refl
 searched_one r s (changes.Undo n) is = refl
 searched_one r s (changes.Distance d) is = refl
@@ -55,10 +57,37 @@ job_brings r n = search_brings r (next_search r n)
 page_brings : (r : Records) (command : Command) (o : Outcome) → o.change ≡ None → BringsNone r o
 page_brings r command o none change is = absurd (cc (none, is))
 
+-- a change of a live mark brings no words
+live_one : (r : Records) (file : FileNo) (live : Bool) (change : Change) → Some (changes.Live file live) ≡ Some change → words_brought r (Some change) ≡ []
+live_one r file live (changes.File new) is = absurd (cc is)
+live_one r file live (changes.Live other mark) is = refl
+live_one r file live (changes.Decision d) is = refl
+live_one r file live (changes.Undo n) is = refl
+live_one r file live (changes.Distance d) is = refl
+live_one r file live (changes.Searched t) is = refl
+
+marked_brings : (r : Records) (file : FileNo) (live already : Bool) → BringsNone r (marked r file live already)
+marked_brings r file live true change is = absurd (cc is)
+marked_brings r file live false change is = live_one r file live change is
+
+where_there : (r : Records) (file : FileNo) (live already there : Bool) → BringsNone r (if there then marked r file live already else refused r refusals.UnknownFile)
+where_there r file live already true change is = marked_brings r file live already change is
+where_there r file live already false change is = absurd (cc is)
+
+delete_brings : (r : Records) (file : FileNo) → BringsNone r (delete r file)
+unfolding delete
+delete_brings r file = where_there r file false (not (is_live r.files file.0)) (has_file r file)
+
+undelete_brings : (r : Records) (file : FileNo) → BringsNone r (undelete r file)
+unfolding undelete
+undelete_brings r file = where_there r file true (is_live r.files file.0) (has_file r file)
+
 -- a command whose reads are bounded brings no words
 pub bounded_brings : (r : Records) (tree : List NodeView) (command : Command) (n : ℕ) → most_reads r tree command ≡ Some n → BringsNone r (step r Console command)
 unfolding step pairs
 bounded_brings r tree (commands.Import file) n is = absurd (cc is)
+bounded_brings r tree (commands.Delete file) n is = delete_brings r file
+bounded_brings r tree (commands.Undelete file) n is = undelete_brings r file
 bounded_brings r tree (commands.Decide d) n is = absurd (cc is)
 bounded_brings r tree (commands.Undo k) n is = absurd (cc is)
 bounded_brings r tree (commands.Relations file) n is = absurd (cc is)

@@ -44,20 +44,13 @@ pairs_are laws t step =
     laws.read n (relations_in t.groups) t.pairs.rows step.paired.of below (λ f lt. rw step.related (king_below laws.split n _ among f lt))
     ∙ rw (step.related, step.paired.gone, step.paired.near) refl
 
-pub pairs_prepared : Laws → (t : TablesView) (page : PairPage) → AreInStep t →
-    IsPrepared (pairs (records_of t) page) t (prepared.Told (replies.Pairs (map named (page_of page.after page.n page.at_most t.pairs.rows.pairs))))
+pub pairs_prepared : (t : TablesView) (page : PairPage) (rows : List Row) → rows ≡ potential_pairs (records_of t) →
+    IsPrepared (pairs (records_of t) page) t (prepared.Told (replies.Pairs (map named (page_of page.after page.n page.at_most rows))))
 unfolding pairs
-pairs_prepared laws t page step = (
-  refl,
-  ap (λ (rows : List Row). replies.Pairs (map named (page_of page.after page.n page.at_most rows))) (sym (pairs_are laws t step)),
-  refl,
-)
+pairs_prepared t page rows are =
+    (refl, ap (λ (all : List Row). replies.Pairs (map named (page_of page.after page.n page.at_most all))) (sym are), refl)
 
-pub count_prepared : Laws → (t : TablesView) (m : ℕ) → AreInStep t →
-    IsPrepared (pair_count (records_of t) m) t (prepared.Told (replies.PairCount (length (within m t.pairs.rows.pairs))))
+pub count_prepared : (t : TablesView) (m : ℕ) (rows : List Row) → rows ≡ potential_pairs (records_of t) →
+    IsPrepared (pair_count (records_of t) m) t (prepared.Told (replies.PairCount (length (within m rows))))
 unfolding pair_count
-count_prepared laws t m step = (
-  refl,
-  ap (λ (rows : List Row). replies.PairCount (length (within m rows))) (sym (pairs_are laws t step)),
-  refl,
-)
+count_prepared t m rows are = (refl, ap (λ (all : List Row). replies.PairCount (length (within m all))) (sym are), refl)

@@ -1,5 +1,6 @@
 -- What is prepared for a command is its outcome.
-use Rattle.std.proofs.Common.{◌≡◌, ◌≤◌, ℕ, Bool, true, false, nat_lt, Vec, Global, ◌==◌, ◌&&◌, Some, None, List, [], ◌∷◌, ◌++◌, length, slice_get, not, refl, arith, ap, subst, sym, ◌∙◌}
+use mathlib.Core.Bool.{beq}
+use Rattle.std.proofs.Common.{◌≡◌, ◌≤◌, ℕ, Bool, true, false, nat_lt, Vec, Global, ◌==◌, ◌&&◌, if◌then◌else◌, Some, None, List, [], ◌∷◌, ◌++◌, length, slice_get, not, refl, arith, ap, subst, sym, ◌∙◌}
 use Rattle.std.proofs.lemmas.Bool.{ltb-true, lt-ltb, eqb-true, eqb-false, and_parts}
 use Rattle.std.proofs.lemmas.Option.{same_Some, slice_get_within}
 use Rattle.media_types.specs.declared.decision.Decision.{Decision}
@@ -17,7 +18,8 @@ use Rattle.spare_tables.specs.Table.{Table}
 use Rattle.file_records.specs.Importing.{IsPlannedFor, Planned}
 use Rattle.file_records.specs.Lookup.{file_with}
 use Rattle.file_records.specs.Rows.{row_of}
-use Rattle.file_records.specs.Searching.{is_queued}
+use Rattle.file_records.specs.Living.{is_live, with_live_mark}
+use Rattle.file_records.specs.Searching.{is_queued, passes, wants_search}
 use Rattle.file_records.specs.Words.{new_words, words_of}
 use Rattle.file_records.specs.declared.file_row.FileRow.{FileRow}
 use Rattle.decision_book.specs.declared.decision_row.DecisionRow.{DecisionRow}
@@ -165,6 +167,84 @@ decide_prepared stands_last old rows groups pairs d plan moved count keep step s
         leads = ap (λ (o : Outcome). o.records) o ∙ rw same refl;
       },
       refl,
+    )
+
+-- ---- deletions
+
+-- what a command asks that marks a file as live, or as deleted
+abbrev pub mark_asked : Records → FileNo → Bool → Outcome
+mark_asked r file live = if live then machine.undelete r file else machine.delete r file
+
+mark_fits : StepsKeepFit → (r : Records) (file : FileNo) (live : Bool) → Fits r → Fits (mark_asked r file live).records
+unfolding step
+mark_fits keep r file true fits = keep r Console (commands.Undelete file) fits
+mark_fits keep r file false fits = keep r Console (commands.Delete file) fits
+
+-- a file that is there, by its row
+there_by_row : (r : Records) (file : FileNo) (row : FileRow) → slice_get r.files file.0 ≡ Some row → has_file r file ≡ true
+there_by_row r file row at = lt-ltb _ _ (slice_get_within r.files file.0 row at)
+
+live_by_row : (rows : List FileRow) (k : ℕ) (row : FileRow) → slice_get rows k ≡ Some row → is_live rows k ≡ row.live
+live_by_row rows k row at = rw at refl
+
+pub other_mark : (a b : Bool) → beq a b ≡ false → a ≡ not b
+other_mark true true e = absurd (cc e)
+other_mark true false e = refl
+other_mark false true e = refl
+other_mark false false e = absurd (cc e)
+
+-- whether a file is to be searched once it is marked
+pub told_live : (live wants queued : Bool) → live ≡ true → queued ≡ wants → (live && wants) ≡ queued
+told_live live wants queued is told = rw is (sym told)
+
+pub told_deleted : (live wants queued : Bool) → live ≡ false → queued ≡ live → (live && wants) ≡ queued
+told_deleted live wants queued is told = rw is (sym (told ∙ is))
+
+-- a file that isn't marked so
+mark_takes : (r : Records) (file : FileNo) (live : Bool) → has_file r file ≡ true → is_live r.files file.0 ≡ not live →
+    mark_asked r file live ≡ changed (record r { files = with_live_mark file.0 live r.files }) (replies.Changed true) (changes.Live file live)
+unfolding machine.delete machine.undelete
+mark_takes r file true there is = rw (there, is) refl
+mark_takes r file false there is = rw (there, is) refl
+
+-- and one that is marked so already
+mark_stays : (r : Records) (file : FileNo) (live : Bool) → has_file r file ≡ true → is_live r.files file.0 ≡ live →
+    mark_asked r file live ≡ told r (replies.Changed false)
+unfolding machine.delete machine.undelete
+mark_stays r file true there is = rw (there, is) refl
+mark_stays r file false there is = rw (there, is) refl
+
+pub live_prepared : (old : TablesView) (work : Work) (pairs : PairsKept) (file : FileNo) (live queued : Bool) (row : FileRow) (plan : PlanView) →
+    StepsKeepFit → AreInStep old →
+    slice_get old.files.rows file.0 ≡ Some row → row.live ≡ not live →
+    1 ≤ work.spare → (live && passes (wants_search old.distance) old.files.rows file.0) ≡ queued →
+    LeadsPairs plan (relations_in old.groups) (with_live_mark file.0 live old.files.rows) pairs →
+    IsPrepared (mark_asked (records_of old) file live) (record { files = old.files; book = old.book; groups = old.groups; tree = old.tree; pairs = pairs; work = work; distance = old.distance })
+    (prepared.Change (plans.Live file live queued plan) (changes.Live file live) (replies.Changed true))
+live_prepared old work pairs file live queued row plan keep step at other room queued_is paired =
+    let r = records_of old in
+    let o = mark_takes r file live (there_by_row r file row at) (live_by_row r.files file.0 row at ∙ other) in (
+      ap (λ (o : Outcome). o.change) o,
+      ap (λ (o : Outcome). o.reply) o,
+      record {
+        known = slice_get_within old.files.rows file.0 row at;
+        told = queued_is;
+        queue_room = room;
+        paired = paired;
+        fits = mark_fits keep r file live step.fits;
+        leads = ap (λ (o : Outcome). o.records) o;
+      },
+      refl,
+    )
+
+pub live_told : (t : TablesView) (file : FileNo) (live : Bool) (row : FileRow) → slice_get t.files.rows file.0 ≡ Some row → row.live ≡ live →
+    IsPrepared (mark_asked (records_of t) file live) t (prepared.Told (replies.Changed false))
+live_told t file live row at is =
+    let r = records_of t in
+    let o = mark_stays r file live (there_by_row r file row at) (live_by_row r.files file.0 row at ∙ is) in (
+      ap (λ (o : Outcome). o.change) o,
+      ap (λ (o : Outcome). o.reply) o,
+      ap (λ (o : Outcome). o.records) o,
     )
 
 -- ---- relations

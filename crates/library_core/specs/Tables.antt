@@ -1,5 +1,5 @@
 -- The tables of a library: what they record, what keeps them in step, and what a planned change does to them.
-use Rattle.std.specs.Prelude.{◌≡◌, ◌≢◌, ◌<◌, ◌≤◌, ℕ, Bool, true, false, List, [], ◌∷◌, ◌++◌, length, map, All, Option, Some, None, slice_get}
+use Rattle.std.specs.Prelude.{◌≡◌, ◌≢◌, ◌<◌, ◌≤◌, ◌&&◌, ℕ, Bool, true, false, List, [], ◌∷◌, ◌++◌, length, map, All, Option, Some, None, slice_get}
 use Rattle.media_types.specs.declared.decision.Decision.{Decision}
 use Rattle.media_types.specs.declared.hash.Hash64.{Hash64}
 use Rattle.media_types.specs.declared.limits.TheConstants.{MAX_DECISIONS}
@@ -10,7 +10,8 @@ use Rattle.media_base.specs.declared.change.Change.TheVariants as changes
 use Rattle.spare_tables.specs.Table.{Table}
 use Rattle.file_records.specs.Importing.{IsPlannedFor, Planned}
 use Rattle.file_records.specs.Near.{near_pairs}
-use Rattle.file_records.specs.Searching.{deleted, is_queued, queue_of, searched}
+use Rattle.file_records.specs.Living.{deleted, with_live_mark}
+use Rattle.file_records.specs.Searching.{is_queued, passes, queue_of, searched, wants_search}
 use Rattle.file_records.specs.Words.{new_words, words_of}
 use Rattle.file_records.specs.declared.file_row.FileRow.{FileRow}
 use Rattle.decision_book.specs.declared.decision_row.DecisionRow.{DecisionRow}
@@ -55,6 +56,7 @@ HasWords tree r = words_in tree ≡ words_of r.files
 abbrev pub words_brought : Records → Option Change → List Hash64
 words_brought r None = []
 words_brought r (Some (changes.File file)) = new_words (words_of r.files) file.hashes
+words_brought r (Some (changes.Live file live)) = []
 words_brought r (Some (changes.Decision d)) = []
 words_brought r (Some (changes.Undo n)) = []
 words_brought r (Some (changes.Distance d)) = []
@@ -103,6 +105,15 @@ pub record LeadsPairs (pairs : PlanView) (R : Relations) (rows : List FileRow) (
   pub room : room_of pairs ≤ kept.spare
   pub paired : ArePairsOf R rows (pairs_after pairs kept.rows)
 
+-- So can a planned deletion, or its taking back. It is told whether the file is to be searched then.
+pub record LeadsLive (file : FileNo) (live queued : Bool) (pairs : PlanView) (t : TablesView) (after : Records) : Type 0 where
+  pub known : file.0 < length t.files.rows
+  pub told : (live && passes (wants_search t.distance) t.files.rows file.0) ≡ queued
+  pub queue_room : 1 ≤ t.work.spare
+  pub paired : LeadsPairs pairs (relations_in t.groups) (with_live_mark file.0 live t.files.rows) t.pairs
+  pub fits : Fits after
+  pub leads : after ≡ record (records_of t) { files = with_live_mark file.0 live t.files.rows }
+
 -- So can a planned decision.
 pub record LeadsDecide (d : Decision) (plan : GroupsPlanned) (pairs : PlanView) (t : TablesView) (after : Records) : Type 0 where
   pub known : (d.a.0 < length t.files.rows) × (d.b.0 < length t.files.rows)
@@ -141,6 +152,7 @@ pub record LeadsSearch (files : List FileNo) (d : ℕ) (pairs : PlanView) (t : T
 -- the plan was made of these tables, and leads them to these records
 abbrev pub Leads : TablesPlan → TablesView → Records → Type 0
 Leads (plans.Import plan inserts queued) t after = LeadsImport plan inserts.items queued t after
+Leads (plans.Live file live queued pairs) t after = LeadsLive file live queued pairs t after
 Leads (plans.Decide d plan pairs) t after = LeadsDecide d plan pairs t after
 Leads (plans.Undo n plan pairs) t after = LeadsUndo n plan pairs t after
 Leads (plans.Distance d queue) t after = LeadsDistance d queue t after
@@ -149,6 +161,7 @@ Leads (plans.Search files d pairs) t after = LeadsSearch files d pairs t after
 -- the words that a plan places in the tree
 abbrev pub words_placed : TablesPlan → List Hash64
 words_placed (plans.Import plan inserts queued) = words_planned inserts.items
+words_placed (plans.Live file live queued pairs) = []
 words_placed (plans.Decide d plan pairs) = []
 words_placed (plans.Undo n plan pairs) = []
 words_placed (plans.Distance d queue) = []

@@ -30,6 +30,13 @@ fn command_from(change: Change) -> Command
 {
     match change {
         Change::File(file) => Command::Import(file),
+        Change::Live { file, live } => {
+            if live {
+                Command::Undelete(file)
+            } else {
+                Command::Delete(file)
+            }
+        }
         Change::Decision(decision) => Command::Decide(decision),
         Change::Undo(number) => Command::Undo(number),
         Change::Distance(distance) => Command::SearchDistance(distance),
@@ -147,6 +154,8 @@ impl<K: Keeper> Library<K> {
     ) -> Result<Library<K>, (LoadFail, K)>
         ensures same { (readings : Readings) → K.kept self.keeper ≡ Some readings
             → IfOk result (λ library. library.records ≡ self.records) }
+        ensures fits { IfOk result (λ library. Fits library.records) }
+        ensures words { IfOk result (λ library. HasWords library.tree library.records) }
         ensures whole { IfOk result (λ library. IsBuiltWhole library.tree) }
         ensures never_bad { (readings : Readings) → K.kept self.keeper ≡ Some readings
             → IfErr result (λ fail. (n : ℕ) → fail.0 ≢ LoadFail.BadStore n) }
@@ -158,6 +167,8 @@ impl<K: Keeper> Library<K> {
         ensures later_fail { IfErr result (λ fail. K.faults self.keeper ≤ K.faults fail.1) }
         ensures store { IfErr result (λ fail. fail.0 ≡ LoadFail.StoreFault
             → Rose (K.faults self.keeper) (K.faults fail.1)) }
+        ensures same_limit { IfOk result (λ library. K.limit library.keeper ≡ K.limit self.keeper) }
+        ensures same_units { IfOk result (λ library. K.units library.keeper ≡ K.units self.keeper) }
     {
         Library::load(alloc, self.release(), steps)
     }

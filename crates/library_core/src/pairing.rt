@@ -13,7 +13,7 @@ use crate::plan::Prepared;
 use crate::tables::Tables;
 use media_base::{FileNo, NoMemory, PairPage, Reply, SearchDistance, Steps};
 use near_search::find_near;
-use potential_pairs::PairPlan;
+use potential_pairs::{PairPlan, Pairs};
 use std::sync::ledger::Ledger;
 
 impl Tables {
@@ -43,6 +43,17 @@ impl Tables {
         self.pairs.plan_found(&found, &self.groups, steps)
     }
 
+    // The pairs that are kept, which are those of the records.
+    fn potential_pairs(&self) -> &Pairs
+        ensures { result.now.rows.pairs ≡ machine.potential_pairs (records_of self.now) }
+    {
+        file_records::near_laws();
+        decision_book::laws();
+        relation_groups::laws();
+        potential_pairs::laws();
+        &self.pairs
+    }
+
     #[tactic(auto, unfolding(library_machine::specs::Step::pairs))]
     pub(crate) fn tell_pairs<L: Ledger>(
         &self,
@@ -52,12 +63,10 @@ impl Tables {
         ensures prepared { IfOk result (IsPrepared (machine.pairs (records_of self.now) page) self.now) }
         ensures reads { steps.new ≤ steps.old + (2 * page.n + 17) }
     {
-        file_records::near_laws();
-        decision_book::laws();
-        relation_groups::laws();
-        potential_pairs::laws();
         let PairPage { after, n, at_most } = page;
-        let pairs = self.pairs.page(after, n.number(), at_most.bits(), steps)?;
+        let pairs = self
+            .potential_pairs()
+            .page(after, n.number(), at_most.bits(), steps)?;
         Ok(Prepared::Told(Reply::Pairs(pairs)))
     }
 
@@ -65,10 +74,7 @@ impl Tables {
     pub(crate) fn tell_pair_count(&self, at_most: SearchDistance) -> Prepared
         ensures { IsPrepared (machine.pair_count (records_of self.now) at_most) self.now result }
     {
-        file_records::near_laws();
-        decision_book::laws();
-        relation_groups::laws();
-        potential_pairs::laws();
-        Prepared::Told(Reply::PairCount(self.pairs.count(at_most.bits())))
+        let count = self.potential_pairs().count(at_most.bits());
+        Prepared::Told(Reply::PairCount(count))
     }
 }

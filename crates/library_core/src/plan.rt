@@ -1,5 +1,5 @@
 use file_records::ImportPlan;
-use media_base::{Change, Decision, DecisionNo, FileList, Refusal, Reply, SearchDistance};
+use media_base::{Change, Decision, DecisionNo, FileList, FileNo, Refusal, Reply, SearchDistance};
 use potential_pairs::PairPlan;
 use relation_groups::GroupPlan;
 use tree_upkeep::QueuePlan;
@@ -13,6 +13,13 @@ pub enum TablesPlan {
         words: Vec<InsertPlan>,
         /// Whether the file is to be searched.
         queued: bool,
+    },
+    Live {
+        file: FileNo,
+        live: bool,
+        /// Whether the file is to be searched then.
+        queued: bool,
+        pairs: PairPlan,
     },
     Decide {
         decision: Decision,

@@ -1,7 +1,7 @@
-ghost use Rattle.std.specs.Prelude.{◌≡◌, ◌&&◌, IfOk};
+ghost use Rattle.std.specs.Prelude.{◌≡◌, ◌<◌, ◌≤◌, ◌+◌, ◌&&◌, if◌then◌else◌, length, IfOk};
 ghost use Rattle.media_base.specs.declared.command.Caller.TheVariants as callers;
 ghost use Rattle.library_machine.specs.Step as machine;
-ghost use Rattle.library_core.specs.Counting.{IsWithin, most_reads};
+ghost use Rattle.library_core.specs.Counting.{IsWithin, live_reads, most_reads};
 ghost use Rattle.library_core.specs.Tables.{IsPrepared, records_of};
 
 use crate::numbers::all_files;
@@ -47,6 +47,8 @@ impl Tables {
     {
         match command {
             Command::Import(file) => self.plan_import(file, steps),
+            Command::Delete(file) => self.plan_live(*file, false, steps),
+            Command::Undelete(file) => self.plan_live(*file, true, steps),
             Command::Decide(decision) => self.plan_decide(*decision, steps),
             Command::Undo(number) => self.plan_undo(*number, steps),
             Command::Relations(file) => self.tell_relations(*file),
@@ -73,7 +75,7 @@ impl Tables {
         if let Some(number) = self.files.find(&file.sha) {
             return Ok(Prepared::Told(Reply::Imported(Imported {
                 file: number,
-                status: ImportStatus::Known,
+                status: self.known_status(number, steps),
             })));
         }
         let count = self.files.len();
@@ -99,6 +101,57 @@ impl Tables {
                 file: FileNo(count),
                 status: ImportStatus::New,
             }),
+        })
+    }
+
+    // What an import finds of a file that is known.
+    fn known_status<L: Ledger>(&self, file: FileNo, steps: &mut Steps<L>) -> ImportStatus
+        requires { file.0 < length self.now.files.rows }
+        ensures { result ≡ machine.known_status self.now.files.rows file.0 }
+    {
+        if self.files.row(file, steps).live {
+            ImportStatus::Known
+        } else {
+            ImportStatus::Deleted
+        }
+    }
+
+    #[tactic(auto, unfolding(library_machine::specs::Step::delete, library_machine::specs::Step::undelete))]
+    fn plan_live<L: Ledger>(
+        &mut self,
+        file: FileNo,
+        live: bool,
+        steps: &mut Steps<L>,
+    ) -> Result<Prepared, NoMemory>
+        ensures records { records_of self.new ≡ records_of self.old }
+        ensures tree { self.new.tree.rows ≡ self.old.tree.rows }
+        ensures prepared { let r = records_of self.old in IfOk result (IsPrepared
+            (if live then machine.undelete r file else machine.delete r file) self.new) }
+        ensures reads { steps.new ≤ steps.old + live_reads (records_of self.old) file }
+    {
+        if !self.has_file(file) {
+            return Ok(Refusal::UnknownFile.into());
+        }
+        if self.files.row(file, steps).live == live {
+            return Ok(Prepared::Told(Reply::Changed(false)));
+        }
+        library_machine::records_stay_fit();
+        file_records::live_laws();
+        file_records::near_laws();
+        decision_book::laws();
+        relation_groups::laws();
+        self.upkeep.reserve()?;
+        let queued = live && self.files.wants_search(file, self.distance, steps);
+        let pairs = self.pairs.plan_live(file, live, &self.groups, steps)?;
+        Ok(Prepared::Change {
+            plan: TablesPlan::Live {
+                file,
+                live,
+                queued,
+                pairs,
+            },
+            change: Change::Live { file, live },
+            reply: Reply::Changed(true),
         })
     }
 

@@ -33,7 +33,6 @@ impl Tables {
         if self.distance == distance {
             return Ok(Prepared::Told(reply));
         }
-        library_machine::records_stay_fit();
         file_records::search_laws();
         let files = self.files.queue(distance, steps)?;
         let queue = self.upkeep.plan_queue(&files)?;

@@ -2,14 +2,14 @@ ghost use Rattle.std.specs.Prelude.{◌≡◌, [], OnOk};
 ghost use Rattle.vp_tree.specs.Building.{IsBuiltWhole};
 ghost use Rattle.vp_tree.specs.Placing.{ArePlaced};
 ghost use Rattle.library_machine.specs.Records.{Records, no_records};
-ghost use Rattle.library_core.specs.Tables.{HasWords, Leads, LeadsImport, LeadsSearch, records_of, words_placed, words_planned};
+ghost use Rattle.library_core.specs.Tables.{HasWords, Leads, LeadsImport, LeadsLive, LeadsSearch, records_of, words_placed, words_planned};
 
 use crate::plan::TablesPlan;
 use crate::searching::note_searched;
 use crate::words::place_words;
 use decision_book::Book;
 use file_records::{Files, ImportPlan};
-use media_base::{Decision, FileList, HashNo, NoMemory, SearchDistance, Steps};
+use media_base::{Decision, FileList, FileNo, HashNo, NoMemory, SearchDistance, Steps};
 use potential_pairs::{PairPlan, Pairs};
 use relation_groups::Groups;
 use std::alloc::Global;
@@ -97,6 +97,12 @@ impl Tables {
                 words,
                 queued,
             } => self.commit_import(file, words, queued, steps),
+            TablesPlan::Live {
+                file,
+                live,
+                queued,
+                pairs,
+            } => self.commit_live(file, live, queued, pairs),
             TablesPlan::Decide {
                 decision,
                 groups,
@@ -152,6 +158,19 @@ impl Tables {
         self.upkeep.note(number, queued);
     }
 
+    fn commit_live(&mut self, file: FileNo, live: bool, queued: bool, pairs: PairPlan)
+        requires { (after : Records) × LeadsLive file live queued pairs self.old after }
+        ensures records { (after : Records) → LeadsLive file live queued pairs self.old after
+            → records_of self.new ≡ after }
+        ensures tree { self.new.tree.rows ≡ self.old.tree.rows }
+        ensures words { HasWords self.new.tree.rows (records_of self.new) }
+    {
+        file_records::live_laws();
+        self.files.set_live(file, live);
+        self.upkeep.note(file, queued);
+        self.pairs.commit(pairs);
+    }
+
     fn commit_search(&mut self, risen: &FileList, distance: SearchDistance, pairs: PairPlan)
         requires { (after : Records) × LeadsSearch risen.now distance pairs self.old after }
         ensures records { (after : Records) → LeadsSearch risen.now distance pairs self.old after
@@ -173,7 +192,8 @@ impl Tables {
     {
         match plan {
             TablesPlan::Import { file, .. } => self.files.withdraw(file),
-            TablesPlan::Decide { .. }
+            TablesPlan::Live { .. }
+            | TablesPlan::Decide { .. }
             | TablesPlan::Undo { .. }
             | TablesPlan::Distance { .. }
             | TablesPlan::Search { .. } => {}

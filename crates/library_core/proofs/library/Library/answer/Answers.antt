@@ -2,7 +2,7 @@ use Rattle.std.proofs.Common.{◌≡◌, List, Some, sym, subst, ap, ◌∙◌}
 use Rattle.media_base.specs.declared.command.Caller.{Caller}
 use Rattle.media_base.specs.declared.command.Caller.TheVariants.{Console}
 use Rattle.media_base.specs.Keeping.{HasGivenAll}
-use Rattle.library_machine.specs.Changes.{after_change}
+use Rattle.library_machine.specs.Changes.{after_change, kept_with}
 use Rattle.library_machine.specs.Records.{Fits, Records}
 use Rattle.library_machine.specs.Step.{step}
 use Rattle.vp_tree.specs.declared.node.NodeView.{NodeView}
@@ -12,7 +12,7 @@ use Rattle.library_core.specs.Keeping.{GrowsBy, LibraryView}
 use Rattle.library_core.specs.Tables.{records_of, words_brought, words_placed}
 use Rattle.library_core.proofs.Bounded.{bounded_brings, within_still}
 use Rattle.library_core.proofs.Opened.{opens_more}
-use Rattle.library_core.proofs.Growing.{grows, the_console}
+use Rattle.library_core.proofs.Growing.{grows, keeps, the_console}
 use Rattle.library_core.proofs.library.Library.answer.Goals as goal
 
 pub returns-in-Ok-Told-clause-not_kept : goal.returns-in-Ok-Told-clause-not_kept
@@ -37,6 +37,19 @@ invariant_of-self-in-Ok g c =
       own = rw c.in-Ok.ensures.same_alien c.self.invariant.own;
       opens = opens_more _ _ r _ change c.in-Ok.ensures.ok leads c.self.invariant.opens;
     }
+
+-- the change is kept behind the others
+pub returns-in-Ok-clause-kept : goal.returns-in-Ok-clause-kept
+returns-in-Ok-clause-kept g c =
+    let r = records_of c.self.inside.tables in
+    let command = c.args.command.now in
+    let change = c.in-Ok-Change.change in
+    let reply = c.in-Ok-Change.reply in
+    let prepared = rw c.in-Ok-Change.field-0-is at c.in-Ok-Change.ensures.prepared in
+    let kept = g.K.Keeper.kept c.put.new.self in
+    subst (λ (caller : Caller). kept ≡ kept_with (step c.args.self.now.records caller command).change reply (g.K.Keeper.kept c.args.self.now.keeper)) (the_console c.args.caller)
+    (subst (λ (l : LibraryView g.row.K.Denot). kept ≡ kept_with (step l.records Console command).change reply (g.K.Keeper.kept l.keeper)) c.self.view_is
+    (keeps c.refusals_change_nothing.ensures.in_a_step c.changes_are_kept.ensures.told r command change reply _ kept prepared.0 prepared.1 c.in-Ok.ensures.ok))
 
 pub returns-in-Ok-clause-opens : goal.returns-in-Ok-clause-opens
 returns-in-Ok-clause-opens g c =

@@ -12,10 +12,8 @@ invariant_of-self g c =
     } in
     let here = subst (λ (t : TablesView). LeadsImport c.args.file c.args.words.items c.args.queued t c.requires.0) (sym c.self.view_is) c.requires.1 in
     let near_laws : NearLaws = record {
-      below = c.near_laws.ensures.below;
       one_more = c.near_laws.ensures.one_more;
       live_more = c.near_laws.ensures.live_more;
-      still_deleted = c.near_laws.ensures.still_deleted;
     } in
     import_in_step laws near_laws _ c.args.file c.args.words.items c.args.queued c.requires.0 c.self.invariant here
     c.commit_import-number.new.self c.add_file.new.self c.add_file-2.new.self c.place_words.new.tree c.note.new.self c.commit_import-number.result

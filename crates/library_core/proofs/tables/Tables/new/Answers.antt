@@ -1,6 +1,6 @@
 use Rattle.std.proofs.Common.{refl, ap, sym, ◌∙◌}
 use Rattle.file_records.specs.Near.{near_pairs}
-use Rattle.file_records.specs.Searching.{deleted}
+use Rattle.file_records.specs.Living.{deleted}
 use Rattle.library_core.proofs.Committing.{no_near, no_words, no_queue}
 use Rattle.library_core.proofs.tables.Tables.new.Goals as goal
 

@@ -1,4 +1,4 @@
-use Rattle.library_core.proofs.Committing.{NearLaws, pairs_found}
+use Rattle.library_core.proofs.Committing.{pairs_found}
 use Rattle.library_core.proofs.tables.Tables.plan_near.Goals as goal
 
 pub plan_found-requires-clause-found : goal.plan_found-requires-clause-found
@@ -6,11 +6,5 @@ plan_found-requires-clause-found g c = rw (c.self.invariant.grouped, c.self.inva
 
 pub returns-clause-paired : goal.returns-clause-paired
 returns-clause-paired g c =
-    let laws : NearLaws = record {
-      below = c.near_laws.ensures.below;
-      one_more = c.near_laws.ensures.one_more;
-      live_more = c.near_laws.ensures.live_more;
-      still_deleted = c.near_laws.ensures.still_deleted;
-    } in
-    pairs_found laws _ c.args.risen.now c.args.distance c.in_ok-found.found c.plan_found.new.self c.plan_found.result c.self.invariant
+    pairs_found c.near_laws.ensures.still_deleted _ c.args.risen.now c.args.distance c.in_ok-found.found c.plan_found.new.self c.plan_found.result c.self.invariant
     c.in_ok-found.ensures.near c.plan_found.ensures.room c.plan_found.ensures.near c.plan_found.ensures.gone c.plan_found.ensures.of_after

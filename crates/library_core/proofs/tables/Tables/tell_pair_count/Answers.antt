@@ -1,20 +1,12 @@
-use Rattle.std.proofs.Common.{ℕ, length, ap, subst, ◌∙◌, sym}
+use Rattle.std.proofs.Common.{ℕ, length, ap, ◌∙◌, sym}
 use Rattle.media_base.specs.declared.reply.Reply.TheVariants as replies
 use Rattle.potential_pairs.specs.Pages.{within}
-use Rattle.library_core.specs.Tables.{TablesView, AreInStep}
-use Rattle.library_core.proofs.PotentialPairs.{Laws, count_prepared}
+use Rattle.library_core.proofs.PotentialPairs.{count_prepared}
 use Rattle.library_core.proofs.tables.Tables.tell_pair_count.Goals as goal
 
 pub returns : goal.returns
 returns c =
-    let t = c.args.self.now in
-    let laws : Laws = record {
-      read = c.laws-3.ensures.read;
-      below = c.near_laws.ensures.below;
-      split = c.laws-2.ensures.split;
-      recorded = c.laws.ensures.all_recorded;
-    } in
-    let p = count_prepared laws t c.args.at_most (subst AreInStep c.self.view_is c.self.invariant) in
-    let counted = c.count.ensures ∙ ap (λ (m : ℕ). length (within m c.self.inside.pairs.rows.pairs)) c.bits.ensures.value
-    ∙ ap (λ (t : TablesView). length (within c.args.at_most t.pairs.rows.pairs)) c.self.view_is in
+    let rows = c.potential_pairs.result.now.rows.pairs in
+    let p = count_prepared c.args.self.now c.args.at_most rows c.potential_pairs.ensures in
+    let counted = c.count-count.ensures ∙ ap (λ (m : ℕ). length (within m rows)) c.bits.ensures.value in
     (p.0, p.1 ∙ ap replies.PairCount (sym counted), p.2)
