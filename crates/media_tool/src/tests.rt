@@ -1,3 +1,4 @@
+mod alien_keeper;
 mod chance;
 mod decisions;
 mod folds;
@@ -5,7 +6,9 @@ mod keepers;
 mod lines;
 mod near_files;
 mod plain_fold;
+mod plain_library;
 mod playing;
+mod random_session;
 mod rows;
 mod scripts;
 mod undoing;

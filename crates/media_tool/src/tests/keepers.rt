@@ -6,7 +6,7 @@ use super::{FOUR_LINES, FOUR_REPLIES};
 use crate::run;
 use crate::tests::lines::{Line, input_of};
 use crate::tests::playing::source_of;
-use media_base::{BytesSink, BytesSource, CallList, ChangeList, NoMemory, Status, Steps};
+use media_base::{BytesSink, BytesSource, CallList, ChangeList, Keeper, NoMemory, Status, Steps};
 use media_keeper::MemoryKeeper;
 use std::alloc::Global;
 use std::marker::Brand;
@@ -23,10 +23,10 @@ const JOURNAL_FULL: &str = "{\"error\":\"journal_full\"}\n";
 
 /// How a session over a keeper ended.
 #[derive(Drop)]
-struct Ended {
-    status: Status,
-    written: Vec<u8>,
-    keeper: MemoryKeeper,
+pub struct Ended {
+    pub status: Status,
+    pub written: Vec<u8>,
+    pub keeper: MemoryKeeper,
 }
 
 impl Ended {
@@ -52,8 +52,8 @@ fn calls_of(alloc: Global, call: u64) -> Result<CallList, NoMemory> {
     Ok(calls)
 }
 
-// A keeper with room for so many changes whose call of this number fails, if that isn't 0.
-fn keeper_of(
+/// A keeper with room for so many changes whose call of this number fails, if that isn't 0.
+pub fn keeper_of(
     alloc: Global,
     kept: ChangeList,
     failing_call: u64,
@@ -62,15 +62,16 @@ fn keeper_of(
     Ok(MemoryKeeper::new(alloc, kept, calls_of(alloc, failing_call)?, limit))
 }
 
-fn run_counted<L: Ledger>(
+/// A session over a keeper, with a ledger of its own.
+pub fn run_counted<K: Keeper, L: Ledger>(
     rt: &impl Threads,
     alloc: Global,
     words: &[String],
     source: &mut BytesSource,
     sink: &mut BytesSink,
-    keeper: MemoryKeeper,
+    keeper: K,
     blank: Blank,
-) -> (Status, MemoryKeeper)
+) -> (Status, K)
     requires name { blank.name ≡ L.name }
     requires parts { blank.parts ≡ L.parts }
     requires some { 0 < L.parts }
@@ -79,22 +80,21 @@ fn run_counted<L: Ledger>(
     run(alloc, words, source, sink, keeper, &mut steps)
 }
 
-// Plays the lines over the keeper. The write of this number fails, if that isn't 0.
-fn played_over(
+/// Plays the input over the keeper. The write of this number fails, if that isn't 0.
+pub fn session_over(
     rt: &(impl Threads + Abort),
     alloc: Global,
-    lines: &[Line],
+    input: &str,
     keeper: MemoryKeeper,
     failing_write: u64,
 ) -> Result<Ended, Fail> {
-    let input = input_of(alloc, lines)?;
-    let mut source = source_of(rt, alloc, &input, 65_536, 0)?;
-    let mut sink = BytesSink::new(alloc, 65_536, calls_of(alloc, failing_write)?)?;
+    let mut source = source_of(rt, alloc, input, 65_536, 0)?;
+    let mut sink = BytesSink::new(alloc, 4_194_304, calls_of(alloc, failing_write)?)?;
     let words = vec![in alloc;
         String::from_str(alloc, "play")?,
         String::from_str(alloc, "-")?,
     ]?;
-    let (status, keeper) = run_counted::<Brand>(
+    let (status, keeper) = run_counted::<_, Brand>(
         rt,
         alloc,
         &words,
@@ -109,6 +109,17 @@ fn played_over(
         written,
         keeper,
     })
+}
+
+// The same for the input of these lines.
+fn played_over(
+    rt: &(impl Threads + Abort),
+    alloc: Global,
+    lines: &[Line],
+    keeper: MemoryKeeper,
+    failing_write: u64,
+) -> Result<Ended, Fail> {
+    session_over(rt, alloc, &input_of(alloc, lines)?, keeper, failing_write)
 }
 
 #[test]
@@ -248,20 +259,16 @@ fn a_search_goes_on_in_the_next_session(rt: HostRuntime) -> Result<(), Fail> {
     let lines = [
         Line::Hashed(0, 0xaa),
         Line::Hashed(1, 0xaa),
-        Line::Text("{\"do\":\"search_job\",\"n\":1}\n"),
-        Line::Text("{\"do\":\"search_distance\",\"distance\":9}\n"),
-        Line::Text("{\"do\":\"search_files\",\"files\":[1],\"distance\":10}\n"),
+        Line::SearchJob(1),
+        Line::SearchDistance(9),
+        Line::Search(1, 10),
     ];
     let first = played_over(&rt, alloc, &lines, empty, 0)?;
     let [new, other, _, _] = FOUR_REPLIES;
     let searched = "{\"searched\":1,\"left\":1}\n";
     let replies = [new, other, searched, "{\"distance\":9}\n", searched];
     first.assert(&rt, Status::Done, &replies, 5);
-    let asked = [
-        Line::Text("{\"do\":\"queues\"}\n"),
-        Line::Text("{\"do\":\"search_distance\",\"distance\":9}\n"),
-        Line::Text("{\"do\":\"search_job\",\"n\":5}\n"),
-    ];
+    let asked = [Line::QUEUES, Line::SearchDistance(9), Line::SearchJob(5)];
     played_over(&rt, alloc, &asked, first.keeper, 0)?.assert(
         &rt,
         Status::Done,

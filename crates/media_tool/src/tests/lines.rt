@@ -40,27 +40,40 @@ pub enum Line {
     Import(u32),
     /// The same with this hash.
     Hashed(u32, u64),
+    /// The same with these two hashes.
+    HashedTwice(u32, u64, u64),
+    Delete(u32),
+    Undelete(u32),
     Decide(Code, u32, u32),
     Undo(u32),
     Relations(u32),
+    /// The potential pairs after a pair, at most so many, within a distance.
+    Page(Option<(u32, u32)>, u32, u8),
+    PairCount(u8),
+    SearchDistance(u8),
+    /// The search of so many files of the queue.
+    SearchJob(u32),
     /// The search of one file within a distance.
     Search(u32, u8),
-    /// The potential pairs within 16 after a pair, at most so many.
-    Page(Option<(u32, u32)>, u32),
+    /// The search of two files within a distance.
+    SearchBoth(u32, u32, u8),
+    /// So many spaces.
+    Spaces(usize),
     Text(&'static str),
 }
 
 impl Line {
+    pub const QUEUES: Line = Line::Text("{\"do\":\"queues\"}\n");
+
+    pub const REBALANCE_JOB: Line = Line::Text("{\"do\":\"rebalance_job\"}\n");
+
     pub fn write_to(&self, input: &mut String) -> Result<(), AllocError> {
         match self {
-            Line::Import(sha) => writeln!(
-                input,
-                "{{\"do\":\"import\",\"sha256\":\"{sha:064x}\",\"hashes\":[],\"size\":1,\"width\":1,\"height\":1}}"
-            ),
-            Line::Hashed(sha, hash) => writeln!(
-                input,
-                "{{\"do\":\"import\",\"sha256\":\"{sha:064x}\",\"hashes\":[\"{hash:016X}\"],\"size\":1,\"width\":1,\"height\":1}}"
-            ),
+            Line::Import(sha) => write_import(input, *sha, &[]),
+            Line::Hashed(sha, hash) => write_import(input, *sha, &[*hash]),
+            Line::HashedTwice(sha, one, other) => write_import(input, *sha, &[*one, *other]),
+            Line::Delete(file) => write_asked(input, "delete", "file", *file),
+            Line::Undelete(file) => write_asked(input, "undelete", "file", *file),
             Line::Decide(code, a, b) => {
                 let code = code.number();
                 writeln!(
@@ -68,22 +81,69 @@ impl Line {
                     "{{\"do\":\"decide\",\"code\":{code},\"a\":{a},\"b\":{b}}}"
                 )
             }
-            Line::Undo(decision) => {
-                writeln!(input, "{{\"do\":\"undo\",\"decision\":{decision}}}")
+            Line::Undo(decision) => write_asked(input, "undo", "decision", *decision),
+            Line::Relations(file) => write_asked(input, "relations", "file", *file),
+            Line::Page(place, n, at_most) => write_page(input, *place, *n, *at_most),
+            Line::PairCount(at_most) => {
+                write_asked(input, "pair_count", "at_most", u32::from(*at_most))
             }
-            Line::Relations(file) => { writeln!(input, "{{\"do\":\"relations\",\"file\":{file}}}") }
-            Line::Search(file, distance) => writeln!(
-                input,
-                "{{\"do\":\"search_files\",\"files\":[{file}],\"distance\":{distance}}}"
-            ),
-            Line::Page(None, n) => writeln!(input, "{{\"do\":\"pairs\",\"n\":{n},\"at_most\":16}}"),
-            Line::Page(Some((j, k)), n) => writeln!(
-                input,
-                "{{\"do\":\"pairs\",\"after_j\":{j},\"after_k\":{k},\"n\":{n},\"at_most\":16}}"
-            ),
+            Line::SearchDistance(distance) => {
+                write_asked(input, "search_distance", "distance", u32::from(*distance))
+            }
+            Line::SearchJob(n) => write_asked(input, "search_job", "n", *n),
+            Line::Search(file, distance) => write_search(input, &[*file], *distance),
+            Line::SearchBoth(one, other, distance) => {
+                write_search(input, &[*one, *other], *distance)
+            }
+            Line::Spaces(count) => write_spaces(input, *count),
             Line::Text(text) => input.push_str(text),
         }
     }
+}
+
+fn write_import(input: &mut String, sha: u32, hashes: &[u64]) -> Result<(), AllocError> {
+    write!(
+        input,
+        "{{\"do\":\"import\",\"sha256\":\"{sha:064x}\",\"hashes\":["
+    )?;
+    let mut between = "";
+    for hash in hashes {
+        write!(input, "{between}\"{hash:016X}\"")?;
+        between = ",";
+    }
+    writeln!(input, "],\"size\":1,\"width\":1,\"height\":1}}")
+}
+
+// A command of this name with one field.
+fn write_asked(input: &mut String, name: &str, field: &str, value: u32) -> Result<(), AllocError> {
+    writeln!(input, "{{\"do\":\"{name}\",\"{field}\":{value}}}")
+}
+
+fn write_page(
+    input: &mut String,
+    place: Option<(u32, u32)>,
+    n: u32,
+    at_most: u8,
+) -> Result<(), AllocError> {
+    input.push_str("{\"do\":\"pairs\",")?;
+    if let Some((j, k)) = place {
+        write!(input, "\"after_j\":{j},\"after_k\":{k},")?;
+    }
+    writeln!(input, "\"n\":{n},\"at_most\":{at_most}}}")
+}
+
+fn write_search(input: &mut String, files: &[u32], distance: u8) -> Result<(), AllocError> {
+    writeln!(
+        input,
+        "{{\"do\":\"search_files\",\"files\":{files:?},\"distance\":{distance}}}"
+    )
+}
+
+fn write_spaces(input: &mut String, count: usize) -> Result<(), AllocError> {
+    for _ in 0..count {
+        input.push(' ')?;
+    }
+    input.push('\n')
 }
 
 pub fn input_of(alloc: Global, lines: &[Line]) -> Result<String, AllocError> {

@@ -14,7 +14,7 @@ use std::thread::Threads;
 
 const FILES: u32 = 300;
 
-const PAGE: usize = 1_000;
+const PAGE: u32 = 1_000;
 
 /// A file of a session, which is alone in its group.
 #[derive(Clone, Copy)]
@@ -46,10 +46,7 @@ fn known_files(alloc: Global) -> Result<Vec<Known>, AllocError> {
     let mut chance = Chance::new(300);
     let mut files = Vec::with_capacity(alloc, FILES as usize)?;
     for file in 0..FILES {
-        let mut word = u64::from(file % 8).wrapping_mul(0x9e37_79b9_7f4a_7c15);
-        for _turn in 0..chance.below(10) {
-            word ^= 1 << chance.below(64);
-        }
+        let word = chance.near(u64::from(file % 8).wrapping_mul(0x9e37_79b9_7f4a_7c15));
         files.push(Known { word, reach: None })?;
     }
     Ok(files)
@@ -79,28 +76,6 @@ fn near_pairs(alloc: Global, files: &[Known]) -> Result<Vec<(u32, u32, u32)>, Al
         add_pairs(&mut pairs, number, file, files)?;
     }
     Ok(pairs)
-}
-
-fn reply_of(alloc: Global, page: &[(u32, u32, u32)]) -> Result<String, AllocError> {
-    let mut reply = String::from_str(alloc, "{\"pairs\":[")?;
-    let mut between = "";
-    for (j, k, distance) in page {
-        write!(reply, "{between}[{j},{k},{distance}]")?;
-        between = ",";
-    }
-    reply.push_str("]}")?;
-    Ok(reply)
-}
-
-// Asks for all pairs, page by page, until none is left.
-fn ask_for_pairs(alloc: Global, script: &mut Script, files: &[Known]) -> Result<(), AllocError> {
-    let pairs = near_pairs(alloc, files)?;
-    let mut place = None;
-    for page in pairs.chunks(PAGE) {
-        script.say(Line::Page(place, PAGE as u32), &reply_of(alloc, page)?)?;
-        place = page.last().map(|(j, k, _)| (*j, *k));
-    }
-    script.say(Line::Page(place, PAGE as u32), "{\"pairs\":[]}")
 }
 
 /// In which order the files are searched.
@@ -167,10 +142,10 @@ fn assert_searched(
         let reach = distance.saturating_add(more);
         search(alloc, &mut script, &mut files, number, reach)?;
         if turn == FILES / 2 {
-            ask_for_pairs(alloc, &mut script, &files)?;
+            script.ask_for_pairs(&near_pairs(alloc, &files)?, PAGE)?;
         }
     }
-    ask_for_pairs(alloc, &mut script, &files)?;
+    script.ask_for_pairs(&near_pairs(alloc, &files)?, PAGE)?;
     let shows = format!(in alloc; "{order:?} within {distance}")?;
     script.assert_answered(rt, Manner::PLAIN, &shows)
 }

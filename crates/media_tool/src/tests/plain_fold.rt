@@ -209,6 +209,14 @@ impl PlainFold {
         Ok(members)
     }
 
+    /// The kings of two files, the lower first, where their groups may be a potential pair.
+    pub fn pair_name(&self, rt: &impl Abort, one: u32, other: u32) -> Option<(u32, u32)> {
+        let one = self.place(rt, one);
+        let other = self.place(rt, other);
+        let may_pair = one.class != other.class && !self.are_apart(one.class, other.class);
+        may_pair.then_some((one.king.min(other.king), one.king.max(other.king)))
+    }
+
     /// The relations of a file, as a session writes them.
     pub fn relations(&self, rt: &impl Abort, file: u32) -> Result<String, AllocError> {
         let place = self.place(rt, file);

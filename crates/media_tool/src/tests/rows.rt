@@ -2,7 +2,8 @@
 
 use crate::tests::lines::Code::{Alternates, Better, NotRelated, Same, Worse};
 use crate::tests::lines::Line::{
-    self, Decide, Hashed, Import, Page, Relations, Search, Text, Undo,
+    self, Decide, Delete, Hashed, Import, Page, PairCount, Relations, Search, SearchBoth,
+    SearchDistance, SearchJob, Spaces, Text, Undelete, Undo,
 };
 use crate::tests::playing::Manner;
 use crate::tests::scripts::Script;
@@ -21,11 +22,9 @@ const DECISION_1: &str = r#"{"decision":1}"#;
 
 const DECISION_2: &str = r#"{"decision":2}"#;
 
-const QUEUES: &str = "{\"do\":\"queues\"}\n";
+const CHANGED: &str = r#"{"changed":true}"#;
 
-const JOB_OF_ONE: &str = "{\"do\":\"search_job\",\"n\":1}\n";
-
-const JOB_OF_THREE: &str = "{\"do\":\"search_job\",\"n\":3}\n";
+const UNCHANGED: &str = r#"{"changed":false}"#;
 
 const UNKNOWN_FILE: &str = r#"{"error":"unknown_file"}"#;
 
@@ -173,7 +172,6 @@ const OTHERS: [Case; 4] = [
         files: 0,
         rows: &[
             (Text("[\n"), r#"{"error":"not_json"}"#),
-            (Text("\n"), r#"{"error":"not_json"}"#),
             (
                 Text("{\"do\":\"fly\"}\n"),
                 r#"{"error":"not_a_request","field":"do"}"#,
@@ -182,8 +180,13 @@ const OTHERS: [Case; 4] = [
                 Text("{\"do\":\"import\",\"sha256\":\"00\",\"size\":1,\"width\":1,\"height\":1}\n"),
                 r#"{"error":"bad_hash"}"#,
             ),
+            (SearchDistance(17), r#"{"error":"bad_distance"}"#),
+            (Page(None, 0, 16), r#"{"error":"bad_number"}"#),
             (Relations(5), UNKNOWN_FILE),
-            (Text("[1]"), r#"{"error":"not_a_request","field":"do"}"#),
+            (Spaces(65_537), r#"{"error":"line_too_long"}"#),
+            (Text("\n"), r#"{"error":"not_json"}"#),
+            (Text("[1]\n"), r#"{"error":"not_a_request","field":"do"}"#),
+            (Text("{\"do\":\"queues\"}"), r#"{"search":0,"display":0}"#),
         ],
     },
 ];
@@ -196,39 +199,21 @@ const SEARCHES: [Case; 2] = [
         rows: &[
             (Hashed(0, 0xaa), r#"{"file":0,"status":1}"#),
             (Hashed(1, 0xaa), r#"{"file":1,"status":1}"#),
-            (Text(QUEUES), r#"{"search":2,"display":0}"#),
-            (
-                Text("{\"do\":\"search_job\",\"n\":1}\n"),
-                r#"{"searched":1,"left":1}"#,
-            ),
-            (
-                Text("{\"do\":\"search_files\",\"files\":[1,1],\"distance\":3}\n"),
-                r#"{"searched":1,"left":1}"#,
-            ),
-            (
-                Text("{\"do\":\"search_files\",\"files\":[1],\"distance\":2}\n"),
-                r#"{"searched":0,"left":1}"#,
-            ),
-            (
-                Text("{\"do\":\"search_job\",\"n\":5}\n"),
-                r#"{"searched":1,"left":0}"#,
-            ),
-            (
-                Text("{\"do\":\"search_distance\",\"distance\":9}\n"),
-                r#"{"distance":9}"#,
-            ),
-            (Text(QUEUES), r#"{"search":2,"display":0}"#),
+            (Line::QUEUES, r#"{"search":2,"display":0}"#),
+            (SearchJob(1), r#"{"searched":1,"left":1}"#),
+            (SearchBoth(1, 1, 3), r#"{"searched":1,"left":1}"#),
+            (Search(1, 2), r#"{"searched":0,"left":1}"#),
+            (SearchJob(5), r#"{"searched":1,"left":0}"#),
+            (SearchDistance(9), r#"{"distance":9}"#),
+            (Line::QUEUES, r#"{"search":2,"display":0}"#),
         ],
     },
     Case {
         shows: "searches that are refused, and a rebalance",
         files: 1,
         rows: &[
-            (Text(QUEUES), r#"{"search":0,"display":0}"#),
-            (
-                Text("{\"do\":\"search_files\",\"files\":[0,7],\"distance\":3}\n"),
-                UNKNOWN_FILE,
-            ),
+            (Line::QUEUES, r#"{"search":0,"display":0}"#),
+            (SearchBoth(0, 7, 3), UNKNOWN_FILE),
             (
                 Text("{\"do\":\"search_files\",\"files\":[],\"distance\":17}\n"),
                 r#"{"error":"bad_distance"}"#,
@@ -237,19 +222,13 @@ const SEARCHES: [Case; 2] = [
                 Text("{\"do\":\"search_files\",\"files\":[],\"distance\":16}\n"),
                 r#"{"error":"bad_number"}"#,
             ),
-            (
-                Text("{\"do\":\"search_job\",\"n\":1025}\n"),
-                r#"{"error":"bad_number"}"#,
-            ),
-            (
-                Text("{\"do\":\"search_job\",\"n\":1024}\n"),
-                r#"{"searched":0,"left":0}"#,
-            ),
+            (SearchJob(1025), r#"{"error":"bad_number"}"#),
+            (SearchJob(1024), r#"{"searched":0,"left":0}"#),
             (
                 Text("{\"do\":\"search_distance\"}\n"),
                 r#"{"error":"not_a_request","field":"distance"}"#,
             ),
-            (Text("{\"do\":\"rebalance_job\"}\n"), r#"{"done":true}"#),
+            (Line::REBALANCE_JOB, r#"{"done":true}"#),
         ],
     },
 ];
@@ -263,20 +242,14 @@ const PAIRS: [Case; 6] = [
             (Hashed(0, 0), r#"{"file":0,"status":1}"#),
             (Hashed(1, 0xff), r#"{"file":1,"status":1}"#),
             (Hashed(2, 0x1ff), r#"{"file":2,"status":1}"#),
-            (Text(JOB_OF_THREE), r#"{"searched":3,"left":0}"#),
-            (Page(None, 10), r#"{"pairs":[[0,1,8],[1,2,1]]}"#),
-            (
-                Text("{\"do\":\"search_distance\",\"distance\":9}\n"),
-                r#"{"distance":9}"#,
-            ),
-            (Text(QUEUES), r#"{"search":3,"display":0}"#),
-            (Text(JOB_OF_THREE), r#"{"searched":3,"left":0}"#),
-            (Page(None, 10), r#"{"pairs":[[0,1,8],[0,2,9],[1,2,1]]}"#),
-            (Page(Some((0, 1)), 1), r#"{"pairs":[[0,2,9]]}"#),
-            (
-                Text("{\"do\":\"pair_count\",\"at_most\":8}\n"),
-                r#"{"count":2}"#,
-            ),
+            (SearchJob(3), r#"{"searched":3,"left":0}"#),
+            (Page(None, 10, 16), r#"{"pairs":[[0,1,8],[1,2,1]]}"#),
+            (SearchDistance(9), r#"{"distance":9}"#),
+            (Line::QUEUES, r#"{"search":3,"display":0}"#),
+            (SearchJob(3), r#"{"searched":3,"left":0}"#),
+            (Page(None, 10, 16), r#"{"pairs":[[0,1,8],[0,2,9],[1,2,1]]}"#),
+            (Page(Some((0, 1)), 1, 16), r#"{"pairs":[[0,2,9]]}"#),
+            (PairCount(8), r#"{"count":2}"#),
         ],
     },
     Case {
@@ -285,11 +258,11 @@ const PAIRS: [Case; 6] = [
         rows: &[
             (Hashed(0, 0xaa), r#"{"file":0,"status":1}"#),
             (Hashed(1, 0xaa), r#"{"file":1,"status":1}"#),
-            (Text(JOB_OF_ONE), r#"{"searched":1,"left":1}"#),
-            (Page(None, 10), r#"{"pairs":[]}"#),
-            (Text(JOB_OF_ONE), r#"{"searched":1,"left":0}"#),
-            (Page(None, 10), r#"{"pairs":[[0,1,0]]}"#),
-            (Text(JOB_OF_ONE), r#"{"searched":0,"left":0}"#),
+            (SearchJob(1), r#"{"searched":1,"left":1}"#),
+            (Page(None, 10, 16), r#"{"pairs":[]}"#),
+            (SearchJob(1), r#"{"searched":1,"left":0}"#),
+            (Page(None, 10, 16), r#"{"pairs":[[0,1,0]]}"#),
+            (SearchJob(1), r#"{"searched":0,"left":0}"#),
         ],
     },
     Case {
@@ -298,15 +271,9 @@ const PAIRS: [Case; 6] = [
         rows: &[
             (Hashed(0, 0), r#"{"file":0,"status":1}"#),
             (Hashed(1, u64::MAX), r#"{"file":1,"status":1}"#),
-            (
-                Text("{\"do\":\"search_distance\",\"distance\":16}\n"),
-                r#"{"distance":16}"#,
-            ),
-            (
-                Text("{\"do\":\"search_job\",\"n\":2}\n"),
-                r#"{"searched":2,"left":0}"#,
-            ),
-            (Page(None, 10), r#"{"pairs":[]}"#),
+            (SearchDistance(16), r#"{"distance":16}"#),
+            (SearchJob(2), r#"{"searched":2,"left":0}"#),
+            (Page(None, 10, 16), r#"{"pairs":[]}"#),
         ],
     },
     Case {
@@ -316,16 +283,16 @@ const PAIRS: [Case; 6] = [
             (Hashed(0, 0), r#"{"file":0,"status":1}"#),
             (Hashed(1, 0x7), r#"{"file":1,"status":1}"#),
             (Hashed(2, 0xf), r#"{"file":2,"status":1}"#),
-            (Text(JOB_OF_THREE), r#"{"searched":3,"left":0}"#),
-            (Page(None, 10), r#"{"pairs":[[0,1,3],[0,2,4],[1,2,1]]}"#),
+            (SearchJob(3), r#"{"searched":3,"left":0}"#),
+            (Page(None, 10, 16), r#"{"pairs":[[0,1,3],[0,2,4],[1,2,1]]}"#),
             (Decide(Better, 0, 1), DECISION_0),
-            (Page(None, 10), r#"{"pairs":[[0,2,1]]}"#),
+            (Page(None, 10, 16), r#"{"pairs":[[0,2,1]]}"#),
             (Decide(Worse, 0, 2), DECISION_1),
-            (Page(None, 10), r#"{"pairs":[]}"#),
+            (Page(None, 10, 16), r#"{"pairs":[]}"#),
             (Undo(0), r#"{"undone":0}"#),
-            (Page(None, 10), r#"{"pairs":[[1,2,1]]}"#),
+            (Page(None, 10, 16), r#"{"pairs":[[1,2,1]]}"#),
             (Undo(1), r#"{"undone":1}"#),
-            (Page(None, 10), r#"{"pairs":[[0,1,3],[0,2,4],[1,2,1]]}"#),
+            (Page(None, 10, 16), r#"{"pairs":[[0,1,3],[0,2,4],[1,2,1]]}"#),
         ],
     },
     Case {
@@ -336,21 +303,21 @@ const PAIRS: [Case; 6] = [
             (Hashed(1, 0x7), r#"{"file":1,"status":1}"#),
             (Hashed(2, 0xf), r#"{"file":2,"status":1}"#),
             (Search(2, 4), r#"{"searched":1,"left":3}"#),
-            (Text(JOB_OF_THREE), r#"{"searched":3,"left":0}"#),
+            (SearchJob(3), r#"{"searched":3,"left":0}"#),
             (Decide(NotRelated, 0, 1), DECISION_0),
-            (Page(None, 10), r#"{"pairs":[[0,2,4],[1,2,1]]}"#),
+            (Page(None, 10, 16), r#"{"pairs":[[0,2,4],[1,2,1]]}"#),
             (Decide(Alternates, 1, 2), DECISION_1),
-            (Page(None, 10), r#"{"pairs":[]}"#),
+            (Page(None, 10, 16), r#"{"pairs":[]}"#),
             (Undo(0), r#"{"undone":0}"#),
-            (Page(None, 10), r#"{"pairs":[[0,1,3],[0,2,4]]}"#),
+            (Page(None, 10, 16), r#"{"pairs":[[0,1,3],[0,2,4]]}"#),
         ],
     },
     Case {
         shows: "questions of pairs that are refused",
         files: 0,
         rows: &[
-            (Page(Some((7, 3)), 1024), r#"{"pairs":[]}"#),
-            (Page(None, 0), r#"{"error":"bad_number"}"#),
+            (Page(Some((7, 3)), 1024, 16), r#"{"pairs":[]}"#),
+            (Page(None, 0, 16), r#"{"error":"bad_number"}"#),
             (
                 Text("{\"do\":\"pairs\",\"n\":0,\"at_most\":17}\n"),
                 r#"{"error":"bad_distance"}"#,
@@ -363,13 +330,167 @@ const PAIRS: [Case; 6] = [
                 Text("{\"do\":\"pairs\",\"after_j\":1,\"n\":1,\"at_most\":1}\n"),
                 r#"{"error":"not_a_request","field":"after_k"}"#,
             ),
+            (PairCount(17), r#"{"error":"bad_distance"}"#),
+            (PairCount(16), r#"{"count":0}"#),
+        ],
+    },
+];
+
+// Deletions, and what they leave.
+const DELETIONS: [Case; 8] = [
+    Case {
+        shows: "an import of known and deleted files",
+        files: 0,
+        rows: &[
+            (Import(0), r#"{"file":0,"status":1}"#),
+            (Import(0), r#"{"file":0,"status":2}"#),
+            (Delete(0), CHANGED),
+            (Import(0), r#"{"file":0,"status":3}"#),
+            (Delete(0), UNCHANGED),
+        ],
+    },
+    Case {
+        shows: "a deletion that is taken back",
+        files: 2,
+        rows: &[
+            (Undelete(1), UNCHANGED),
+            (Delete(1), CHANGED),
+            (Import(0), r#"{"file":0,"status":2}"#),
+            (Import(1), r#"{"file":1,"status":3}"#),
+            (Undelete(1), CHANGED),
+            (Import(1), r#"{"file":1,"status":2}"#),
+            (Undelete(1), UNCHANGED),
+            (Import(2), r#"{"file":2,"status":1}"#),
+        ],
+    },
+    Case {
+        shows: "deletions of files that aren't there",
+        files: 1,
+        rows: &[
+            (Delete(1), UNKNOWN_FILE),
+            (Undelete(1), UNKNOWN_FILE),
+            (Delete(4_294_967_295), UNKNOWN_FILE),
+            (Undelete(4_294_967_295), UNKNOWN_FILE),
             (
-                Text("{\"do\":\"pair_count\",\"at_most\":17}\n"),
-                r#"{"error":"bad_distance"}"#,
+                Text("{\"do\":\"delete\"}\n"),
+                r#"{"error":"not_a_request","field":"file"}"#,
             ),
             (
-                Text("{\"do\":\"pair_count\",\"at_most\":16}\n"),
-                r#"{"count":0}"#,
+                Text("{\"do\":\"undelete\",\"file\":4294967296}\n"),
+                r#"{"error":"not_a_request","field":"file"}"#,
+            ),
+            (Delete(0), CHANGED),
+        ],
+    },
+    Case {
+        shows: "a deleted file makes no pair",
+        files: 0,
+        rows: &[
+            (Hashed(0, 0), r#"{"file":0,"status":1}"#),
+            (Hashed(1, 0x7), r#"{"file":1,"status":1}"#),
+            (Hashed(2, 0xf), r#"{"file":2,"status":1}"#),
+            (SearchJob(3), r#"{"searched":3,"left":0}"#),
+            (Page(None, 10, 16), r#"{"pairs":[[0,1,3],[0,2,4],[1,2,1]]}"#),
+            (Delete(1), CHANGED),
+            (Page(None, 10, 16), r#"{"pairs":[[0,2,4]]}"#),
+            (PairCount(16), r#"{"count":1}"#),
+            (Delete(2), CHANGED),
+            (Page(None, 10, 16), r#"{"pairs":[]}"#),
+            (Undelete(1), CHANGED),
+            (Page(None, 10, 16), r#"{"pairs":[[0,1,3]]}"#),
+            (Undelete(2), CHANGED),
+            (Page(None, 10, 16), r#"{"pairs":[[0,1,3],[0,2,4],[1,2,1]]}"#),
+        ],
+    },
+    // File 1 was searched within 8, so it wants a search again only once the distance is 9. File 3 has no
+    // hash.
+    Case {
+        shows: "a deleted file leaves the queue, and returns if it wasn't searched",
+        files: 0,
+        rows: &[
+            (Hashed(0, 0xaa), r#"{"file":0,"status":1}"#),
+            (Hashed(1, 0xaa), r#"{"file":1,"status":1}"#),
+            (Hashed(2, 0xaa), r#"{"file":2,"status":1}"#),
+            (Import(3), r#"{"file":3,"status":1}"#),
+            (Line::QUEUES, r#"{"search":3,"display":0}"#),
+            (Delete(0), CHANGED),
+            (Delete(3), CHANGED),
+            (Line::QUEUES, r#"{"search":2,"display":0}"#),
+            (SearchJob(1), r#"{"searched":1,"left":1}"#),
+            (Undelete(0), CHANGED),
+            (Undelete(3), CHANGED),
+            (Line::QUEUES, r#"{"search":2,"display":0}"#),
+            (Delete(1), CHANGED),
+            (Undelete(1), CHANGED),
+            (Line::QUEUES, r#"{"search":2,"display":0}"#),
+            (Delete(1), CHANGED),
+            (SearchDistance(9), r#"{"distance":9}"#),
+            (Line::QUEUES, r#"{"search":2,"display":0}"#),
+            (Undelete(1), CHANGED),
+            (SearchJob(4), r#"{"searched":3,"left":0}"#),
+        ],
+    },
+    Case {
+        shows: "a deleted file may be searched",
+        files: 0,
+        rows: &[
+            (Hashed(0, 0xaa), r#"{"file":0,"status":1}"#),
+            (Hashed(1, 0xaa), r#"{"file":1,"status":1}"#),
+            (Delete(1), CHANGED),
+            (SearchJob(2), r#"{"searched":1,"left":0}"#),
+            (Search(1, 5), r#"{"searched":1,"left":0}"#),
+            (Search(1, 5), r#"{"searched":0,"left":0}"#),
+            (Page(None, 10, 16), r#"{"pairs":[]}"#),
+            (Undelete(1), CHANGED),
+            (Page(None, 10, 16), r#"{"pairs":[[0,1,0]]}"#),
+            (Line::QUEUES, r#"{"search":1,"display":0}"#),
+        ],
+    },
+    // The deleted king 1 still names its group, whose live file is 4 from the other.
+    Case {
+        shows: "a deleted file keeps its group",
+        files: 0,
+        rows: &[
+            (Hashed(0, 0), r#"{"file":0,"status":1}"#),
+            (Hashed(1, 0x7), r#"{"file":1,"status":1}"#),
+            (Hashed(2, 0xf), r#"{"file":2,"status":1}"#),
+            (SearchJob(3), r#"{"searched":3,"left":0}"#),
+            (Decide(Better, 1, 0), DECISION_0),
+            (Page(None, 10, 16), r#"{"pairs":[[1,2,1]]}"#),
+            (Delete(1), CHANGED),
+            (Page(None, 10, 16), r#"{"pairs":[[1,2,4]]}"#),
+            (
+                Relations(0),
+                r#"{"king":1,"members":[0,1],"alternates":[],"not_related":[]}"#,
+            ),
+            (Delete(0), CHANGED),
+            (Page(None, 10, 16), r#"{"pairs":[]}"#),
+            (Undo(0), r#"{"undone":0}"#),
+            (Undelete(1), CHANGED),
+            (Page(None, 10, 16), r#"{"pairs":[[1,2,1]]}"#),
+        ],
+    },
+    Case {
+        shows: "decisions of live and deleted files",
+        files: 3,
+        rows: &[
+            (Delete(1), CHANGED),
+            (Decide(Better, 0, 1), DECISION_0),
+            (
+                Relations(1),
+                r#"{"king":0,"members":[0,1],"alternates":[],"not_related":[]}"#,
+            ),
+            (Delete(2), CHANGED),
+            (Decide(NotRelated, 1, 2), DECISION_1),
+            (
+                Relations(2),
+                r#"{"king":2,"members":[2],"alternates":[],"not_related":[0]}"#,
+            ),
+            (Undelete(1), CHANGED),
+            (Undo(0), r#"{"undone":0}"#),
+            (
+                Relations(1),
+                r#"{"king":1,"members":[1],"alternates":[],"not_related":[2]}"#,
             ),
         ],
     },
@@ -383,6 +504,7 @@ fn sessions_are_answered(rt: HostRuntime) -> Result<(), Fail> {
         .chain(&OTHERS)
         .chain(&SEARCHES)
         .chain(&PAIRS)
+        .chain(&DELETIONS)
     {
         let mut script = Script::with_files(rt.alloc(), case.files)?;
         for (line, reply) in case.rows {

@@ -1,8 +1,12 @@
 //! Sessions with the replies that they must get.
 
+ghost use Rattle.std.specs.Prelude.{◌<◌};
+
+use crate::tests::keepers::session_over;
 use crate::tests::lines::Line;
 use crate::tests::playing::{Manner, played};
 use media_base::{NoMemory, Status};
+use media_keeper::MemoryKeeper;
 use std::alloc::{AllocError, Global};
 use std::process::Abort;
 use std::test::Fail;
@@ -49,6 +53,23 @@ impl Script {
         writeln!(self.replies, "{{\"undone\":{number}}}")
     }
 
+    /// Asks for all of these potential pairs, so many at once, until none is left.
+    pub fn ask_for_pairs(
+        &mut self,
+        pairs: &[(u32, u32, u32)],
+        at_once: u32,
+    ) -> Result<(), AllocError>
+        requires { 0 < at_once }
+    {
+        let mut place = None;
+        for page in pairs.chunks(at_once as usize) {
+            let reply = pairs_reply(self.alloc, page)?;
+            self.say(Line::Page(place, at_once, 16), &reply)?;
+            place = page.last().map(|(j, k, _)| (*j, *k));
+        }
+        self.say(Line::Page(place, at_once, 16), "{\"pairs\":[]}")
+    }
+
     /// Plays it, and compares each line of what was written.
     pub fn assert_answered(
         &self,
@@ -58,7 +79,24 @@ impl Script {
     ) -> Result<(), Fail> {
         let (status, written) = played(rt, self.alloc, &["play", "-"], &self.input, manner)?;
         assert_eq!(rt; status, Status::Done, "{shows}");
-        let found = str::from_utf8(&written)?;
+        self.assert_written(rt, &written, shows)
+    }
+
+    /// The same over a keeper, which comes back.
+    pub fn assert_answered_over(
+        &self,
+        rt: &(impl Threads + Abort),
+        keeper: MemoryKeeper,
+        shows: &str,
+    ) -> Result<MemoryKeeper, Fail> {
+        let ended = session_over(rt, self.alloc, &self.input, keeper, 0)?;
+        assert_eq!(rt; ended.status, Status::Done, "{shows}");
+        self.assert_written(rt, &ended.written, shows)?;
+        Ok(ended.keeper)
+    }
+
+    fn assert_written(&self, rt: &impl Abort, written: &[u8], shows: &str) -> Result<(), Fail> {
+        let found = str::from_utf8(written)?;
         let replies = found.lines().zip(self.replies.lines());
         for (line, (reply, want)) in self.input.lines().zip(replies) {
             assert_eq!(rt; reply, want, "{shows}: to {line}");
@@ -66,4 +104,16 @@ impl Script {
         assert!(rt; found == self.replies.as_str(), "{shows}: other replies");
         Ok(())
     }
+}
+
+/// The reply to a question for potential pairs.
+pub fn pairs_reply(alloc: Global, pairs: &[(u32, u32, u32)]) -> Result<String, AllocError> {
+    let mut reply = String::from_str(alloc, "{\"pairs\":[")?;
+    let mut between = "";
+    for (j, k, distance) in pairs {
+        write!(reply, "{between}[{j},{k},{distance}]")?;
+        between = ",";
+    }
+    reply.push_str("]}")?;
+    Ok(reply)
 }
