@@ -54,6 +54,7 @@ impl RandomSession {
         })
     }
 
+    // The next line.
     fn ask(&mut self, rt: &impl Abort, turn: u32) -> Result<(), AllocError> {
         match self.chance.below(40) {
             0..=3 => self.import(),
@@ -200,7 +201,7 @@ impl RandomSession {
     }
 }
 
-// What a session kept answers all questions as it did itself.
+// What was kept of the session is then opened, and asked the same questions as the session at its end.
 #[test]
 fn a_random_session_is_answered_as_plain_lists_say(rt: HostRuntime) -> Result<(), Fail> {
     let alloc = rt.alloc();
@@ -208,6 +209,8 @@ fn a_random_session_is_answered_as_plain_lists_say(rt: HostRuntime) -> Result<()
     for turn in 0..LINES {
         session.ask(&rt, turn)?;
     }
+    let pairs = session.library.potential_pairs(&rt)?;
+    assert!(rt; 20 < pairs.len(), "{pairs:?}");
     session.library.ask_all(&rt, &mut session.script)?;
     let mut questions = Script::with_files(alloc, 0)?;
     session.library.ask_all(&rt, &mut questions)?;
