@@ -1,4 +1,3 @@
-mod alien_keeper;
 mod chance;
 mod decisions;
 mod folds;
