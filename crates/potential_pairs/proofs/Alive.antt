@@ -8,14 +8,15 @@ use Rattle.std.specs.declared.cmp.Ordering.TheVariants.{Less, Greater}
 use Rattle.std.proofs.lemmas.Bool.{cases_eq, eq-eqb, eqb-true, ne_eqb, or_cases, or_parts}
 use Rattle.std.proofs.lemmas.Map.Keys.{sorted_head, sorted_tail}
 use Rattle.media_types.specs.declared.numbers.FileNo.{FileNo}
+use Rattle.spare_tables.specs.KeyLaws.{by_ordering}
 use Rattle.spare_tables.specs.Keys.{without}
 use Rattle.spare_tables.specs.Order.{number_exact}
+use Rattle.spare_tables.specs.PairLaws.{number_says}
 use Rattle.relation_groups.specs.Relations.{Relations}
 use Rattle.potential_pairs.specs.Naming.{live_name, name_of}
 use Rattle.potential_pairs.specs.Planning.{has_file, with_live}
 use Rattle.potential_pairs.specs.Potential.{is_live}
 use Rattle.potential_pairs.proofs.OneFile.{same-test}
-use Rattle.potential_pairs.proofs.SortedRows.{by_ordering, number_says}
 
 abbrev is_in : ℕ → List ℕ → Bool
 is_in x gone = list_any (λ g. g == x) gone

@@ -3,13 +3,13 @@ use Rattle.std.proofs.Common.{◌≡◌, ◌≢◌, ◌∙◌, ◌+◌, ◌==◌
 use Rattle.std.specs.BTreeMap.{insert_entry}
 use Rattle.std.proofs.lemmas.Bool.{and_parts, cases_Bool, eq-eqb, eqb-true}
 use Rattle.std.proofs.lemmas.List.Sums.{sum_by-cons}
+use Rattle.spare_tables.specs.KeyLaws.{by_ordering}
 use Rattle.spare_tables.specs.Keys.{value_of}
 use Rattle.spare_tables.specs.Order.{pair_cmp, pair_exact}
 use Rattle.potential_pairs.specs.Levels.{Ascend, one_at}
 use Rattle.potential_pairs.specs.Naming.{count_named, weight}
 use Rattle.potential_pairs.specs.Potential.{Row}
 use Rattle.potential_pairs.proofs.Rows.{ascend-tail, none_later, same_name, value_first, value_later}
-use Rattle.potential_pairs.proofs.SortedRows.{by_ordering}
 
 pub weight-same : (own q : ℕ × ℕ) (e d : ℕ) → q ≡ own → weight (Some own) e q d ≡ one_at d (Some e)
 weight-same own q e d same =

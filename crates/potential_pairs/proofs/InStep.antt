@@ -12,12 +12,12 @@ use Rattle.std.proofs.lemmas.Map.Views.{All-keys-insert_entry, All-map-remove_en
 use Rattle.media_types.specs.declared.limits.TheConstants.{MAX_DISTANCE}
 use Rattle.spare_tables.specs.Keys.{value_of}
 use Rattle.spare_tables.specs.Order.{pair_cmp}
+use Rattle.spare_tables.specs.PairLaws.{pair_order}
 use Rattle.potential_pairs.specs.Levels.{AreInStep, Ascend, IsDistance, IsLevelOf, IsName, one_at}
 use Rattle.potential_pairs.specs.Planning.{with_value}
 use Rattle.potential_pairs.specs.Potential.{Row}
 use Rattle.potential_pairs.proofs.Counting.{one_at-option}
 use Rattle.potential_pairs.proofs.Rows.{same_name, set_here, set_other, sorted-with_value}
-use Rattle.potential_pairs.proofs.SortedRows.{pair_order}
 
 -- ---- the old distance of a name
 value-shallow : (rows : List Row) (name : ℕ × ℕ) → All IsDistance (values_of rows) → IfSome (value_of pair_cmp rows name) IsDistance

@@ -11,7 +11,6 @@ pub mod Paging
 pub mod PlannedRows
 pub mod Renaming
 pub mod Rows
-pub mod SortedRows
 pub mod TallyRows
 pub mod Touched
 pub mod Unmoved

@@ -7,13 +7,14 @@ use Rattle.std.specs.declared.cmp.Ordering.TheVariants.{Less}
 use Rattle.std.proofs.lemmas.Bool.{cases_Bool, cases_order}
 use Rattle.std.proofs.lemmas.List.Elements.{All-contains}
 use Rattle.media_types.specs.declared.numbers.FileNo.{FileNo}
+use Rattle.spare_tables.specs.EditLaws.{member_from_value}
 use Rattle.spare_tables.specs.Keys.{IsLeastFrom, value_of}
 use Rattle.spare_tables.specs.Order.{pair_cmp, pair_exact, triple_cmp}
+use Rattle.spare_tables.specs.PairLaws.{pair_less, pair_order}
 use Rattle.spare_tables.specs.Pairs.{IsBefore}
 use Rattle.potential_pairs.specs.Levels.{AreInStep, IsFirstBehind, IsName}
 use Rattle.potential_pairs.specs.Pages.{is_behind}
 use Rattle.potential_pairs.specs.Potential.{Row}
-use Rattle.potential_pairs.proofs.SortedRows.{member_from_value, pair_less}
 
 -- of one distance the names decide
 of_one_level : (d : ℕ) (x y : ℕ × ℕ) → triple_cmp (d, x.0, x.1) (d, y.0, y.1) ≡ pair_cmp x y
@@ -28,7 +29,7 @@ pub named-name : (rows : List Row) (levels : List (ℕ × ℕ × ℕ)) (counts :
     → (name : ℕ × ℕ) (d : ℕ) → value_of pair_cmp rows name ≡ Some d → IsName name
 named-name rows levels counts step name d has =
     let some : IsSome (value_of pair_cmp rows name) = rw has refl in
-    All-contains IsName (keys_of rows) name step.named (member_from_value pair_exact name rows some)
+    All-contains IsName (keys_of rows) name step.named (member_from_value pair_order pair_exact name rows some)
 
 module _ (rows : List Row) (levels : List (ℕ × ℕ × ℕ)) (counts : List ℕ) (step : AreInStep rows levels counts)
     (d : ℕ) (place : Option (FileNo × FileNo)) (start : ℕ × ℕ)

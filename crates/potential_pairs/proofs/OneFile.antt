@@ -7,15 +7,16 @@ use Rattle.std.specs.declared.cmp.Ordering.TheVariants.{Less}
 use Rattle.std.proofs.lemmas.Bool.{cases_eq, eq-eqb, ltb-true, ne_eqb}
 use Rattle.std.proofs.lemmas.List.{get_or-drop, get_or-map, length-drop, length-map}
 use Rattle.std.proofs.lemmas.Map.Keys.{Less-from_sorted}
+use Rattle.spare_tables.specs.EditLaws.{same_rows}
 use Rattle.spare_tables.specs.Keys.{value_of}
-use Rattle.spare_tables.specs.Order.{pair_cmp}
+use Rattle.spare_tables.specs.Order.{pair_cmp, pair_exact}
+use Rattle.spare_tables.specs.PairLaws.{pair_less, pair_order}
 use Rattle.spare_tables.specs.Pairs.{IsBefore}
 use Rattle.potential_pairs.specs.Keeping.{AreNearRows, turned}
 use Rattle.potential_pairs.specs.Levels.{Ascend}
 use Rattle.potential_pairs.specs.Planning.{has_file, with_changes}
 use Rattle.potential_pairs.specs.Potential.{Row}
-use Rattle.potential_pairs.proofs.Rows.{AreApart, apart-from_ascend, ascend-filter, changed, same_name, same_rows, sorted-with_changes, value-filter, value-with_changes, value_first, value_later}
-use Rattle.potential_pairs.proofs.SortedRows.{pair_less}
+use Rattle.potential_pairs.proofs.Rows.{AreApart, apart-from_ascend, ascend-filter, changed, same_name, sorted-with_changes, value-filter, value-with_changes, value_first, value_later}
 
 -- ---- a stretch of a list
 module _ {X : Type 0} (test : X → Bool) where
@@ -123,7 +124,7 @@ file-added near others pairs file test rows some =
     let lower_apart = apart-from_ascend lower (ascend-filter (λ (q : ℕ × ℕ). q.0 == file) near rows.sorted) in
     let higher_apart = apart-turned higher (apart-from_ascend higher (ascend-filter (λ (q : ℕ × ℕ). q.0 == file) others rows.others_sorted)) in
     let lower_sorted : Ascend (with_changes Some lower pairs) = sorted-with_changes Some lower pairs sorted in
-    same_rows (with_changes Some (turned higher) (with_changes Some lower pairs)) (filter (λ (row : Row). test row.0 || has_file file row.0) near)
+    same_rows pair_order pair_exact (with_changes Some (turned higher) (with_changes Some lower pairs)) (filter (λ (row : Row). test row.0 || has_file file row.0) near)
     (sorted-with_changes Some (turned higher) (with_changes Some lower pairs) lower_sorted) (ascend-filter (λ (q : ℕ × ℕ). test q || has_file file q) near rows.sorted) (λ files.
     let first : value_of pair_cmp lower files ≡ cond (file == files.0) (value_of pair_cmp near files) None =
     value-filter (λ (q : ℕ × ℕ). q.0 == file) near files ∙ ap (λ passes. cond passes (value_of pair_cmp near files) None) (same-test files.0 file) in

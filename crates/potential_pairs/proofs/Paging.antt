@@ -16,14 +16,15 @@ use Rattle.std.proofs.lemmas.Map.Entries.{lookup_head}
 use Rattle.std.proofs.lemmas.Map.Keys.{sorted_tail}
 use Rattle.media_types.specs.declared.limits.TheConstants.{MAX_DISTANCE}
 use Rattle.media_types.specs.declared.numbers.FileNo.{FileNo}
+use Rattle.spare_tables.specs.KeyLaws.{by_ordering}
 use Rattle.spare_tables.specs.Keys.{value_of}
 use Rattle.spare_tables.specs.Order.{pair_cmp, pair_exact}
+use Rattle.spare_tables.specs.PairLaws.{pair_greater, pair_less, pair_order}
 use Rattle.spare_tables.specs.Pairs.{IsBefore}
 use Rattle.potential_pairs.specs.Levels.{AreHeads, Ascend, IsFirstBehind, IsHead, IsLeastHead}
 use Rattle.potential_pairs.specs.Pages.{is_behind, within}
 use Rattle.potential_pairs.specs.Potential.{Row}
 use Rattle.potential_pairs.proofs.Rows.{none_below, none_later}
-use Rattle.potential_pairs.proofs.SortedRows.{by_ordering, pair_greater, pair_less, pair_order}
 
 -- the rows within a distance that come after a place
 abbrev pub behind : Option (FileNo × FileNo) → ℕ → List Row → List Row

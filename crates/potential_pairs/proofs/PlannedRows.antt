@@ -8,8 +8,10 @@ use Rattle.std.proofs.lemmas.Bool.Decides.{Decides-by_or, Decides-eqb, same_from
 use Rattle.std.proofs.lemmas.List.{get_or-take, get_or_default, length-take, take_all}
 use Rattle.std.proofs.lemmas.List.Elements.{Decides-contains}
 use Rattle.media_types.specs.declared.numbers.FileNo.{FileNo}
+use Rattle.spare_tables.specs.EditLaws.{same_rows, sorted-insert_entry, value_put, value_put_other}
 use Rattle.spare_tables.specs.Keys.{value_of}
-use Rattle.spare_tables.specs.Order.{pair_cmp}
+use Rattle.spare_tables.specs.Order.{pair_cmp, pair_exact}
+use Rattle.spare_tables.specs.PairLaws.{pair_order}
 use Rattle.relation_groups.specs.Relations.{Relations}
 use Rattle.potential_pairs.specs.Keeping.{AreTallyRows}
 use Rattle.potential_pairs.specs.Levels.{Ascend, one_at}
@@ -22,8 +24,7 @@ use Rattle.potential_pairs.proofs.Between.{counted-of, of-counted}
 use Rattle.potential_pairs.proofs.Counts.{count-put, weight-other, weight-same}
 use Rattle.potential_pairs.proofs.Least.{count-if_any}
 use Rattle.potential_pairs.proofs.TallyRows.{with-tallies}
-use Rattle.potential_pairs.proofs.Rows.{apart-from_ascend, changed, length-put_new, name_in, put-same, same_name, same_rows, sorted-with_changes, value-with_changes, was_found}
-use Rattle.potential_pairs.proofs.SortedRows.{sorted-put, value_put, value_put_other}
+use Rattle.potential_pairs.proofs.Rows.{apart-from_ascend, changed, length-put_new, name_in, put-same, same_name, sorted-with_changes, value-with_changes, was_found}
 
 -- an empty plan leads nowhere
 pub after-nothing : (plan : PlanView) (rows : PairsView) → plan.near ≡ [] → plan.tallies ≡ [] → plan.live ≡ None → after plan rows ≡ rows
@@ -50,18 +51,18 @@ module _ (rows : PairsView) (sorted : Ascend rows.near) where
       → (after new rows).near ≡ insert_entry pair_cmp (after old rows).near files e
   unfolding after
   near-added old new files e planned more =
-      let more_sorted : Ascend (insert_entry pair_cmp old.near files e) = sorted-put old.near files e planned in
+      let more_sorted : Ascend (insert_entry pair_cmp old.near files e) = sorted-insert_entry pair_order old.near files e planned in
       ap (λ (list : List Row). with_changes Some list rows.near) more
-      ∙ same_rows (with_changes Some (insert_entry pair_cmp old.near files e) rows.near) (insert_entry pair_cmp (with_changes Some old.near rows.near) files e)
+      ∙ same_rows pair_order pair_exact (with_changes Some (insert_entry pair_cmp old.near files e) rows.near) (insert_entry pair_cmp (with_changes Some old.near rows.near) files e)
       (sorted-with_changes Some (insert_entry pair_cmp old.near files e) rows.near sorted)
-      (sorted-put (with_changes Some old.near rows.near) files e (sorted-with_changes Some old.near rows.near sorted))
+      (sorted-insert_entry pair_order (with_changes Some old.near rows.near) files e (sorted-with_changes Some old.near rows.near sorted))
       (λ q. value-with_changes Some (insert_entry pair_cmp old.near files e) rows.near q (apart-from_ascend (insert_entry pair_cmp old.near files e) more_sorted) sorted ∙ elim (same_name q files) [
         | inl same ↦
-            ap (λ found. changed Some found (value_of pair_cmp rows.near q)) (ap (value_of pair_cmp (insert_entry pair_cmp old.near files e)) same ∙ value_put files e old.near)
-            ∙ sym (ap (value_of pair_cmp (insert_entry pair_cmp (with_changes Some old.near rows.near) files e)) same ∙ value_put files e (with_changes Some old.near rows.near))
+            ap (λ found. changed Some found (value_of pair_cmp rows.near q)) (ap (value_of pair_cmp (insert_entry pair_cmp old.near files e)) same ∙ value_put pair_order files e old.near)
+            ∙ sym (ap (value_of pair_cmp (insert_entry pair_cmp (with_changes Some old.near rows.near) files e)) same ∙ value_put pair_order files e (with_changes Some old.near rows.near))
         | inr other ↦
-            ap (λ found. changed Some found (value_of pair_cmp rows.near q)) (value_put_other q files e old.near other)
-            ∙ sym (value_put_other q files e (with_changes Some old.near rows.near) other ∙ value-with_changes Some old.near rows.near q (apart-from_ascend old.near planned) sorted)
+            ap (λ found. changed Some found (value_of pair_cmp rows.near q)) (value_put_other pair_order pair_exact q files e old.near other)
+            ∙ sym (value_put_other pair_order pair_exact q files e (with_changes Some old.near rows.near) other ∙ value-with_changes Some old.near rows.near q (apart-from_ascend old.near planned) sorted)
       ])
 
   -- which pairs are near after it
@@ -129,16 +130,16 @@ planned_count-is plan rows name d planned sorted =
 module _ (old new : PlanView) (rows : PairsView) (name : ℕ × ℕ) (tally : Tally) (planned : Ascend old.tallies) (sorted : Ascend rows.tallies)
     (set : new.tallies ≡ insert_entry pair_cmp old.tallies name tally) where
   new_sorted : Ascend new.tallies
-  new_sorted = subst (λ (list : List TallyRow). Ascend list) (sym set) (sorted-put old.tallies name tally planned)
+  new_sorted = subst (λ (list : List TallyRow). Ascend list) (sym set) (sorted-insert_entry pair_order old.tallies name tally planned)
 
   pub planned_count-here : (q : ℕ × ℕ) (d : ℕ) → q ≡ name → planned_count new rows q d ≡ get_or tally.counts d 0
   planned_count-here q d same =
-      let found : value_of pair_cmp new.tallies q ≡ Some tally = (λ i. value_of pair_cmp (set i) (same i)) ∙ value_put name tally old.tallies in
+      let found : value_of pair_cmp new.tallies q ≡ Some tally = (λ i. value_of pair_cmp (set i) (same i)) ∙ value_put pair_order name tally old.tallies in
       planned_count-is new rows q d new_sorted sorted ∙ ap (λ t. planned_by t (count_at (value_of pair_cmp rows.tallies q) d) d) found
 
   pub planned_count-there : (q : ℕ × ℕ) (d : ℕ) → q ≢ name → planned_count new rows q d ≡ planned_count old rows q d
   planned_count-there q d other =
-      let found : value_of pair_cmp new.tallies q ≡ value_of pair_cmp old.tallies q = ap (λ list. value_of pair_cmp list q) set ∙ value_put_other q name tally old.tallies other in
+      let found : value_of pair_cmp new.tallies q ≡ value_of pair_cmp old.tallies q = ap (λ list. value_of pair_cmp list q) set ∙ value_put_other pair_order pair_exact q name tally old.tallies other in
       planned_count-is new rows q d new_sorted sorted ∙ ap (λ t. planned_by t (count_at (value_of pair_cmp rows.tallies q) d) d) found ∙ sym (planned_count-is old rows q d planned sorted)
 
   -- one near pair more, or one less, makes the pair of the name

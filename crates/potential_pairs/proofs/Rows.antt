@@ -6,31 +6,29 @@ use Rattle.std.specs.List.Sorted.{IsStrictlySortedBy}
 use Rattle.std.specs.Map.{keys_of, values_of}
 use Rattle.std.proofs.lemmas.List.Elements.{All-head, All-tail}
 use Rattle.std.proofs.lemmas.Map.Views.{All-values-insert_entry}
-use Rattle.std.specs.Ordering.{is_eq, ordering_reverse}
+use Rattle.std.specs.Ordering.{is_eq}
 use Rattle.std.specs.declared.cmp.Ordering.TheVariants.{Less}
 use Rattle.std.proofs.lemmas.List.Kept.{IsStrictlySortedBy-filter}
 use Rattle.std.proofs.lemmas.Map.{lookup-none}
 use Rattle.std.proofs.lemmas.Map.Entries.{lookup-filter-keys, lookup_head, lookup_tail, none_below_head}
 use Rattle.std.proofs.lemmas.Map.Keys.{sorted_tail}
+use Rattle.spare_tables.specs.EditLaws.{apart, same_or_not, same_rows, sorted-insert_entry, sorted-without_row, value_put, value_put_other, value_taken, value_taken_other}
+use Rattle.spare_tables.specs.KeyLaws.{by_ordering}
 use Rattle.spare_tables.specs.Keys.{value_of}
 use Rattle.spare_tables.specs.Order.{pair_cmp, pair_exact}
+use Rattle.spare_tables.specs.PairLaws.{pair_order}
 use Rattle.potential_pairs.specs.Levels.{Ascend, IsDistance}
 use Rattle.potential_pairs.specs.Planning.{Found, with_changes, with_value, with_found}
 use Rattle.potential_pairs.specs.Potential.{Row}
-use Rattle.potential_pairs.proofs.SortedRows.{by_ordering, pair_order, sorted-put, sorted-taken, value_put, value_put_other, value_taken, value_taken_other}
 
 pub same_name : (x y : ℕ × ℕ) → (x ≡ y) ⊎ (x ≢ y)
-same_name x y = by_ordering (pair_cmp x y)
-    (λ less. inr (λ same. let tie = tied_itself pair_order x in let moved = ap (pair_cmp x) same in cc))
-    (λ equal. inl (pair_exact x y equal))
-    (λ greater. inr (λ same. let tie = tied_itself pair_order x in let moved = ap (pair_cmp x) same in cc))
+same_name = same_or_not pair_order pair_exact
 
 at_same : (q name : ℕ × ℕ) → q ≡ name → is_at (pair_cmp q) name ≡ true
 at_same q name same = ap (λ k. is_at (pair_cmp q) k) (sym same) ∙ ap is_eq (tied_itself pair_order q)
 
 at_other : (q name : ℕ × ℕ) → q ≢ name → is_at (pair_cmp q) name ≡ false
-at_other q name other = by_ordering (pair_cmp q name)
-    (λ less. ap is_eq less) (λ equal. absurd (other (pair_exact q name equal))) (λ greater. ap is_eq greater)
+at_other = apart pair_order pair_exact
 
 module _ {V : Type 0} where
   -- ---- the first row and the others
@@ -53,31 +51,11 @@ module _ {V : Type 0} where
   none_later row [] sorted = refl
   none_later row (next ∷ rows) sorted = none_below row.0 next rows sorted.1 sorted.0.0
 
-  -- rows that ascend and have the same values are the same
-  pub same_rows : (xs ys : List ((ℕ × ℕ) × V)) → Ascend xs → Ascend ys → ((q : ℕ × ℕ) → value_of pair_cmp xs q ≡ value_of pair_cmp ys q) → xs ≡ ys
-  same_rows [] [] xs_sorted ys_sorted same = refl
-  same_rows [] (y ∷ ys) xs_sorted ys_sorted same = let first = value_first y ys y.0 refl in let none = same y.0 in cc
-  same_rows (x ∷ xs) [] xs_sorted ys_sorted same = let first = value_first x xs x.0 refl in let none = same x.0 in cc
-  same_rows (x ∷ xs) (y ∷ ys) xs_sorted ys_sorted same = by_ordering (pair_cmp x.0 y.0)
-      (λ less. let first = value_first x xs x.0 refl in let none = none_below x.0 y ys ys_sorted less in let is = same x.0 in cc)
-      (λ equal.
-      let name : x.0 ≡ y.0 = pair_exact x.0 y.0 equal in
-      let value : Some x.1 ≡ Some y.1 = sym (value_first x xs x.0 refl) ∙ same x.0 ∙ value_first y ys x.0 name in
-      let is : x.1 ≡ y.1 = cc in
-      let rest = same_rows xs ys (ascend-tail x xs xs_sorted) (ascend-tail y ys ys_sorted) (λ q. elim (same_name q x.0) [
-        | inl here ↦ ap (value_of pair_cmp xs) here ∙ none_later x xs xs_sorted ∙ sym (ap (value_of pair_cmp ys) (here ∙ name) ∙ none_later y ys ys_sorted)
-        | inr other ↦ sym (value_later x xs q other) ∙ same q ∙ value_later y ys q (λ there. other (there ∙ sym name))
-      ]) in
-      λ i. (name i, is i) ∷ rest i)
-      (λ greater.
-      let less : pair_cmp y.0 x.0 ≡ Less = pair_order.antisymm y.0 x.0 ∙ ap ordering_reverse greater in
-      let first = value_first y ys y.0 refl in let none = none_below y.0 x xs xs_sorted less in let is = same y.0 in cc)
-
   -- a value that is there already changes nothing
   pub put-same : (rows : List ((ℕ × ℕ) × V)) (name : ℕ × ℕ) (v : V) → Ascend rows → value_of pair_cmp rows name ≡ Some v → insert_entry pair_cmp rows name v ≡ rows
-  put-same rows name v sorted has = same_rows (insert_entry pair_cmp rows name v) rows (sorted-put rows name v sorted) sorted (λ q. elim (same_name q name) [
-    | inl here ↦ ap (value_of pair_cmp (insert_entry pair_cmp rows name v)) here ∙ value_put name v rows ∙ sym (ap (value_of pair_cmp rows) here ∙ has)
-    | inr other ↦ value_put_other q name v rows other
+  put-same rows name v sorted has = same_rows pair_order pair_exact (insert_entry pair_cmp rows name v) rows (sorted-insert_entry pair_order rows name v sorted) sorted (λ q. elim (same_name q name) [
+    | inl here ↦ ap (value_of pair_cmp (insert_entry pair_cmp rows name v)) here ∙ value_put pair_order name v rows ∙ sym (ap (value_of pair_cmp rows) here ∙ has)
+    | inr other ↦ value_put_other pair_order pair_exact q name v rows other
   ])
 
   pub length-put_new : (rows : List ((ℕ × ℕ) × V)) (name : ℕ × ℕ) (v : V) → value_of pair_cmp rows name ≡ None → length (insert_entry pair_cmp rows name v) ≡ length rows + 1
@@ -109,16 +87,16 @@ module _ {V : Type 0} where
 
   -- ---- one row is set
   pub sorted-with_value : (rows : List ((ℕ × ℕ) × V)) (name : ℕ × ℕ) (v : Option V) → Ascend rows → Ascend (with_value rows name v)
-  sorted-with_value rows name None sorted = sorted-taken rows name sorted
-  sorted-with_value rows name (Some v) sorted = sorted-put rows name v sorted
+  sorted-with_value rows name None sorted = sorted-without_row pair_order rows name sorted
+  sorted-with_value rows name (Some v) sorted = sorted-insert_entry pair_order rows name v sorted
 
   pub set_here : (rows : List ((ℕ × ℕ) × V)) (name : ℕ × ℕ) (v : Option V) → Ascend rows → value_of pair_cmp (with_value rows name v) name ≡ v
-  set_here rows name None sorted = value_taken name rows sorted
-  set_here rows name (Some v) sorted = value_put name v rows
+  set_here rows name None sorted = value_taken pair_order name rows sorted
+  set_here rows name (Some v) sorted = value_put pair_order name v rows
 
   pub set_other : (rows : List ((ℕ × ℕ) × V)) (name : ℕ × ℕ) (v : Option V) (q : ℕ × ℕ) → Ascend rows → q ≢ name → value_of pair_cmp (with_value rows name v) q ≡ value_of pair_cmp rows q
-  set_other rows name None q sorted other = value_taken_other q name rows sorted other
-  set_other rows name (Some v) q sorted other = value_put_other q name v rows other
+  set_other rows name None q sorted other = value_taken_other pair_order pair_exact q name rows sorted other
+  set_other rows name (Some v) q sorted other = value_put_other pair_order pair_exact q name v rows other
 
 -- ---- several changes
 -- no name stands twice
@@ -170,7 +148,7 @@ name_in found = (found.0.0, found.1.0)
 pub sorted-with_found : (found : List Found) (near : List Row) → Ascend near → Ascend (with_found found near)
 sorted-with_found [] near sorted = sorted
 sorted-with_found (first ∷ more) near sorted =
-    sorted-with_found more (insert_entry pair_cmp near (name_in first) first.2) (sorted-put near (name_in first) first.2 sorted)
+    sorted-with_found more (insert_entry pair_cmp near (name_in first) first.2) (sorted-insert_entry pair_order near (name_in first) first.2 sorted)
 
 pub with_found_push : (found : List Found) (last : Found) (near : List Row) → with_found (found ++ last ∷ []) near ≡ insert_entry pair_cmp (with_found found near) (name_in last) last.2
 with_found_push [] last near = refl
@@ -185,10 +163,10 @@ was_found (first ∷ more) near q v has = elim (was_found more (insert_entry pai
   | inl earlier ↦ elim (same_name q (name_in first)) [
     | inl same ↦
         let put : value_of pair_cmp (insert_entry pair_cmp near (name_in first) first.2) q ≡ Some first.2 =
-        ap (value_of pair_cmp (insert_entry pair_cmp near (name_in first) first.2)) same ∙ value_put (name_in first) first.2 near in
+        ap (value_of pair_cmp (insert_entry pair_cmp near (name_in first) first.2)) same ∙ value_put pair_order (name_in first) first.2 near in
         let is : v ≡ first.2 = cc in
         inr (zero, omega arith, λ d. (same, is))
-    | inr other ↦ inl (sym (value_put_other q (name_in first) first.2 near other) ∙ earlier)
+    | inr other ↦ inl (sym (value_put_other pair_order pair_exact q (name_in first) first.2 near other) ∙ earlier)
   ]
 ]
 

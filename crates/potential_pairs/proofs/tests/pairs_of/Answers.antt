@@ -1,8 +1,8 @@
 use Rattle.std.proofs.Common.{◌≡◌, ◌∙◌, ◌<◌, ℕ, true, List, [], ◌∷◌, All, sym, ap, subst, rules}
 use Rattle.std.specs.BTreeMap.{insert_entry}
 use Rattle.std.proofs.lemmas.List.Elements.{All-cons, All-head, All-nil, All-tail}
+use Rattle.spare_tables.specs.KeyLaws.{by_ordering}
 use Rattle.spare_tables.specs.Order.{pair_cmp}
-use Rattle.potential_pairs.proofs.SortedRows.{by_ordering}
 use Rattle.relation_groups.specs.Reading.{relations_in, size_of}
 use Rattle.potential_pairs.specs.Planning.{AreFound, Found, IsFound, after, with_found}
 use Rattle.potential_pairs.specs.Potential.{AreBelow, AreOf, PairsView, Row}

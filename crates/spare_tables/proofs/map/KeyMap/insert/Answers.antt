@@ -4,7 +4,8 @@ use Rattle.std.specs.List.Sorted.{IsStrictlySortedBy}
 use Rattle.std.specs.Map.{keys_of}
 use Rattle.spare_tables.specs.Table.{Table}
 use Rattle.spare_tables.proofs.Edits.{at_within, gap_within, value_at, set_at, insert_at}
-use Rattle.spare_tables.proofs.Members.{sorted-insert_entry, value_at_gap, value_put, value_put_other}
+use Rattle.spare_tables.specs.EditLaws.{sorted-insert_entry, value_put, value_put_other}
+use Rattle.spare_tables.proofs.Members.{value_at_gap}
 use Rattle.spare_tables.proofs.map.KeyMap.insert.Goals as goal
 
 pub index-requires : goal.index-requires

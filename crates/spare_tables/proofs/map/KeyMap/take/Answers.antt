@@ -4,7 +4,8 @@ use Rattle.std.specs.List.Sorted.{IsStrictlySortedBy}
 use Rattle.std.specs.Map.{keys_of}
 use Rattle.spare_tables.specs.Table.{Table}
 use Rattle.spare_tables.proofs.Edits.{at_within, value_at, remove_at}
-use Rattle.spare_tables.proofs.Members.{sorted-without_row, value_at_gap, value_taken, value_taken_other, remove_at_gap}
+use Rattle.spare_tables.specs.EditLaws.{sorted-without_row, value_taken, value_taken_other}
+use Rattle.spare_tables.proofs.Members.{value_at_gap, remove_at_gap}
 use Rattle.spare_tables.proofs.map.KeyMap.take.Goals as goal
 
 pub remove-row-requires : goal.remove-row-requires
