@@ -3,7 +3,6 @@ mod DigitLaws
 mod EachLaws
 mod FieldLaws
 mod FileLaws
-mod FirstItem
 mod HexNumbers
 mod ImportLaws
 mod Lines
@@ -11,7 +10,6 @@ mod LineLaws
 mod Meaning
 mod NameLaws
 mod PairLaws
-mod Putting
 mod SearchLaws
 mod Steps
 mod ValueLaws

@@ -1,3 +1,2 @@
 pub mod Reading
-pub mod ReplyText
 pub mod Spelling

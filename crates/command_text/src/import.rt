@@ -62,10 +62,7 @@ fn words_of(alloc: Global, texts: &[&str]) -> Result<HashList, Refusal>
 {
     let mut words = HashList::new(alloc);
     for text in texts {
-        match word_of(text) {
-            Ok(word) => words.push(word)?,
-            Err(refusal) => return Err(refusal),
-        }
+        words.push(word_of(text)?)?;
     }
     Ok(words)
 }

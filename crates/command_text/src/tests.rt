@@ -2,11 +2,10 @@ mod decisions;
 mod files;
 mod imports;
 mod pairs;
-mod replies;
 mod searches;
 
 use super::*;
-use media_base::{FieldName, Refusal};
+use media_base::{Command, FieldName, Refusal};
 use std::alloc::Global;
 use std::process::Abort;
 use std::test::Fail;
@@ -16,6 +15,40 @@ const DECIDE: &str = r#"{"do":"decide","code":4,"a":1,"b":2"#;
 
 fn assert_refused(rt: &impl Abort, alloc: Global, line: &[u8], want: Refusal) {
     assert_eq!(rt; read_line(alloc, line).err(), Some(want), "at {line:?}");
+}
+
+// Each line begins so, and has these fields and a closing brace behind.
+fn assert_all_refused(
+    rt: &impl Abort,
+    alloc: Global,
+    front: &str,
+    cases: &[(&str, Refusal)],
+) -> Result<(), Fail> {
+    for (fields, want) in cases {
+        let line = format!(in alloc; "{front},{fields}}}")?;
+        assert_refused(rt, alloc, line.as_bytes(), *want);
+    }
+    Ok(())
+}
+
+// The same, where each line is no request because of a field.
+fn assert_all_faulty(
+    rt: &impl Abort,
+    alloc: Global,
+    front: &str,
+    cases: &[(&str, FieldName)],
+) -> Result<(), Fail> {
+    for (fields, field) in cases {
+        let line = format!(in alloc; "{front},{fields}}}")?;
+        assert_refused(rt, alloc, line.as_bytes(), Refusal::NotARequest(*field));
+    }
+    Ok(())
+}
+
+// What the line of these three pieces asks.
+fn read_pieces(alloc: Global, front: &str, middle: &str, end: &str) -> Result<Command, Fail> {
+    let line = format!(in alloc; "{front}{middle}{end}")?;
+    Ok(read_line(alloc, line.as_bytes())?)
 }
 
 #[test]
@@ -64,19 +97,28 @@ fn padded(alloc: Global, text: &str, len: usize) -> Result<String, Fail> {
     Ok(line)
 }
 
+fn assert_padded_refused(
+    rt: &impl Abort,
+    alloc: Global,
+    text: &str,
+    len: usize,
+    want: Refusal,
+) -> Result<(), Fail> {
+    let line = padded(alloc, text, len)?;
+    assert_refused(rt, alloc, line.as_bytes(), want);
+    Ok(())
+}
+
 // 65,536 bytes are read, whatever they are, and 65,537 aren't.
 #[test]
 fn long_lines_are_refused_first(rt: HostRuntime) -> Result<(), Fail> {
     let alloc = rt.alloc();
     let decide = format!(in alloc; "{DECIDE}}}")?;
-    let longest = padded(alloc, "", 65_536)?;
-    assert_refused(&rt, alloc, longest.as_bytes(), Refusal::NotJson);
-    let too_long = padded(alloc, "", 65_537)?;
-    assert_refused(&rt, alloc, too_long.as_bytes(), Refusal::LineTooLong);
+    assert_padded_refused(&rt, alloc, "", 65_536, Refusal::NotJson)?;
+    assert_padded_refused(&rt, alloc, "", 65_537, Refusal::LineTooLong)?;
+    assert_padded_refused(&rt, alloc, decide.as_str(), 65_537, Refusal::LineTooLong)?;
     let read = padded(alloc, decide.as_str(), 65_536)?;
     assert!(rt; read_line(alloc, read.as_bytes()).is_ok());
-    let unread = padded(alloc, decide.as_str(), 65_537)?;
-    assert_refused(&rt, alloc, unread.as_bytes(), Refusal::LineTooLong);
     Ok(())
 }
 
@@ -91,18 +133,31 @@ fn nested(alloc: Global, depth: u32) -> Result<String, Fail> {
     Ok(text)
 }
 
+fn nested_in_a_decision(alloc: Global, depth: u32) -> Result<String, Fail> {
+    let field = nested(alloc, depth)?;
+    Ok(format!(in alloc; "{DECIDE},\"x\":{field}}}")?)
+}
+
+fn assert_nested_refused(
+    rt: &impl Abort,
+    alloc: Global,
+    depth: u32,
+    want: Refusal,
+) -> Result<(), Fail> {
+    let line = nested(alloc, depth)?;
+    assert_refused(rt, alloc, line.as_bytes(), want);
+    Ok(())
+}
+
 // 127 levels are read, in a field that is ignored too.
 #[test]
 fn deep_lines_are_no_json(rt: HostRuntime) -> Result<(), Fail> {
     let alloc = rt.alloc();
-    let no_request = Refusal::NotARequest(FieldName::Do);
-    assert_refused(&rt, alloc, nested(alloc, 127)?.as_bytes(), no_request);
-    assert_refused(&rt, alloc, nested(alloc, 128)?.as_bytes(), Refusal::NotJson);
-    let deepest = nested(alloc, 126)?;
-    let fine = format!(in alloc; "{DECIDE},\"x\":{deepest}}}")?;
-    assert!(rt; read_line(alloc, fine.as_bytes()).is_ok());
-    let deeper = nested(alloc, 127)?;
-    let too_deep = format!(in alloc; "{DECIDE},\"x\":{deeper}}}")?;
+    assert_nested_refused(&rt, alloc, 127, Refusal::NotARequest(FieldName::Do))?;
+    assert_nested_refused(&rt, alloc, 128, Refusal::NotJson)?;
+    let deepest = nested_in_a_decision(alloc, 126)?;
+    assert!(rt; read_line(alloc, deepest.as_bytes()).is_ok());
+    let too_deep = nested_in_a_decision(alloc, 127)?;
     assert_refused(&rt, alloc, too_deep.as_bytes(), Refusal::NotJson);
     Ok(())
 }

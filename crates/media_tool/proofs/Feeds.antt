@@ -1,5 +1,7 @@
 -- Feeding a session pieces of its input, one after the other, until it ends.
 use Rattle.std.proofs.Common.{◌≡◌, ◌≢◌, ℕ, List, [], ◌∷◌, ◌++◌, Option, Result, Ok, Err, refl, sym, ap, subst, ◌∙◌, append_assoc}
+use mathlib.Core.Bool.{false≢true}
+use Rattle.std.specs.Result.{IsErr, OnErr}
 use Rattle.media_types.specs.Cause.{failed}
 use Rattle.media_types.specs.declared.fault.Failed.{Failed}
 use Rattle.std.proofs.lemmas.List.{append-nil}
@@ -7,7 +9,7 @@ use Rattle.std.proofs.lemmas.List.Concat.{flat_map-append}
 use Rattle.media_base.specs.Transfer.{Took, TookFront}
 use Rattle.media_base.specs.TransferLaws.{took_none, took_more, front_of, front_of_none, front_of_more, front_more}
 use Rattle.media_base.specs.declared.reply.Reply.{Reply}
-use Rattle.command_text.specs.ReplyText.{reply_line}
+use Rattle.reply_text.specs.ReplyText.{reply_line}
 use Rattle.media_tool.specs.Lines.{HasNoFeed, with_feed, Cut, with_rest}
 use Rattle.media_tool.specs.Run.{LineAnswered, Run, State, text_of}
 use Rattle.media_tool.specs.Feeding.{Fed, LineSent, Stopped}
@@ -113,6 +115,16 @@ fed_kept r s line piece rest taken first second same is =
     (fed_bytes r line piece taken (AllByRecursion-append (λ byte. byte ≢ 10) line piece first second)))
 
 -- ---- lines that were answered and sent
+
+-- ---- what a failed call hands on
+pub on_err : {T E P : Type 0} (result : Result T E) → P → OnErr result P
+on_err (Ok value) p = tt
+on_err (Err error) p = p
+
+pub sent_handed_on : {T E U F : Type 0} (s m : State) (line : List ℕ) (t u : Option (List ℕ)) (error : E) (result : Result U F)
+    → IsErr result → LineSent {T = T} s line m t u (Err error) → LineSent s line m t u result
+sent_handed_on s m line t u error (Err told) is sent = record { reply = sent.reply; answered = sent.answered; sends = sent.sends }
+sent_handed_on s m line t u error (Ok value) is sent = absurd (false≢true is)
 
 pub sent_fed : (r m : State) (line front whole : List ℕ) (t u : Option (List ℕ)) → whole ≡ line ++ front → HasNoFeed (line ++ front) → LineSent r whole m t u (done tt) → Fed r line (with_feed front) m [] t u
 sent_fed r m line front whole t u is no_feed sent =

@@ -2,7 +2,7 @@
 use Rattle.std.specs.Prelude.{ℕ, List, ◌++◌, Option, Result}
 use Rattle.media_base.specs.Transfer.{Took, TookFront, Sends}
 use Rattle.media_base.specs.declared.reply.Reply.{Reply}
-use Rattle.command_text.specs.ReplyText.{reply_line}
+use Rattle.reply_text.specs.ReplyText.{reply_line}
 use Rattle.media_tool.specs.Kept.{Keeps}
 use Rattle.media_tool.specs.Lines.{Cut, with_rest}
 use Rattle.media_tool.specs.Run.{LineAnswered, Run, State, text_of}

@@ -13,7 +13,7 @@ use Rattle.library_machine.specs.Changes.{kept_with}
 use Rattle.library_machine.specs.Records.{Records}
 use Rattle.library_machine.specs.Step.{Answered, step}
 use Rattle.command_text.specs.Reading.{line_command}
-use Rattle.command_text.specs.ReplyText.{reply_line}
+use Rattle.reply_text.specs.ReplyText.{reply_line}
 use Rattle.library_core.specs.Keeping.{LibraryView}
 
 -- What a session goes through: the records, the changes that the keeper keeps, where it tells them, and how

@@ -1,4 +1,4 @@
-ghost use Rattle.std.specs.Prelude.{◌≡◌, ◌+◌, ◌≤◌, ◌⊎◌, ℕ, List, [], ◌++◌, length, Option, OnOk, OnErr, IfErr};
+ghost use Rattle.std.specs.Prelude.{◌≡◌, ◌+◌, ◌≤◌, ◌⊎◌, ℕ, List, [], ◌++◌, length, Option, OnOk, OnErr};
 ghost use Rattle.media_types.specs.Cause.{HasCause, Rose, failed};
 ghost use Rattle.command_text.specs.declared.request.TheConstants.{MAX_LINE};
 ghost use Rattle.media_tool.specs.Feeding.{Fed, FedKept, LineSent, Stopped};
@@ -8,9 +8,10 @@ ghost use Rattle.media_tool.specs.Run.{LineAnswered, State, state_of};
 ghost use Rattle.media_tool.specs.Session.{Played};
 
 use crate::lines::split_line;
-use command_text::{MAX_LINE, long_line_laws, read_line, write_reply_line};
+use command_text::{MAX_LINE, long_line_laws, read_line};
 use library_core::Library;
-use media_base::{Caller, Failed, Keeper, Reply, Sink, Status, Steps};
+use media_base::{Caller, Failed, Keeper, NoMemory, Reply, Sink, Status, Steps};
+use reply_text::write_reply_line;
 use std::alloc::Global;
 use std::sync::ledger::Ledger;
 
@@ -22,6 +23,28 @@ const MAX_KEPT: usize = MAX_LINE + 1;
 pub enum Stop {
     WriteFault,
     NoMemory,
+}
+
+impl From<Failed> for Stop {
+    ghost use Rattle.std.specs.Prelude.{◌≡◌};
+    ghost use Rattle.media_tool.specs.declared.session.Stop.TheVariants as stops;
+
+    ghost from_gives = { λ _ stop. stop ≡ stops.WriteFault };
+
+    fn from(_failed: Failed) -> Stop {
+        Stop::WriteFault
+    }
+}
+
+impl From<NoMemory> for Stop {
+    ghost use Rattle.std.specs.Prelude.{◌≡◌};
+    ghost use Rattle.media_tool.specs.declared.session.Stop.TheVariants as stops;
+
+    ghost from_gives = { λ _ stop. stop ≡ stops.NoMemory };
+
+    fn from(_want: NoMemory) -> Stop {
+        Stop::NoMemory
+    }
 }
 
 /// A session between two pieces of its input.
@@ -96,15 +119,11 @@ impl<K: Keeper> Session<K> {
     {
         let mut rest = piece;
         while let Some((line, after)) = split_line(rest) {
-            match self.end_line(alloc, line, sink, steps) {
-                Ok(()) => rest = after,
-                Err(stop) => return Err(stop),
-            }
+            self.end_line(alloc, line, sink, steps)?;
+            rest = after;
         }
-        match self.keep(rest) {
-            Ok(()) => Ok(()),
-            Err(stop) => Err(stop),
-        }
+        self.keep(rest)?;
+        Ok(())
     }
 
     /// Answers the line that is left at the end of the input, if it isn't empty.
@@ -133,19 +152,16 @@ impl<K: Keeper> Session<K> {
     }
 
     // Keeps bytes without a line feed, as far as there is room for them.
-    fn keep(&mut self, bytes: &[u8]) -> Result<(), Stop>
+    fn keep(&mut self, bytes: &[u8]) -> Result<(), NoMemory>
         requires { length self.old.line.items ≤ MAX_LINE + 1 }
         ensures library { self.new.library ≡ self.old.library }
         ensures kept { OnOk result (self.new.line.items ≡ kept_of (self.old.line.items ++ bytes.now)) }
         ensures fits { length self.new.line.items ≤ MAX_LINE + 1 }
-        ensures err { IfErr result (λ stop. stop ≡ Stop.NoMemory) }
     {
         let room = MAX_KEPT - self.line.len();
         let front = &bytes[..room.min(bytes.len())];
-        match self.line.extend_from_slice(front) {
-            Ok(()) => Ok(()),
-            Err(_) => Err(Stop::NoMemory),
-        }
+        self.line.extend_from_slice(front)?;
+        Ok(())
     }
 
     // Answers the kept line, which these bytes finish. A line that came in one piece isn't copied.
@@ -169,18 +185,12 @@ impl<K: Keeper> Session<K> {
             (state_of K.kept K.faults self.new.library) (W.taken sink.old) (W.taken sink.new)) }
     {
         if self.line.is_empty() {
-            return match answer_line(alloc, &mut self.library, front, sink, steps) {
-                Ok(()) => Ok(()),
-                Err(_) => Err(Stop::WriteFault),
-            };
+            answer_line(alloc, &mut self.library, front, sink, steps)?;
+        } else {
+            self.keep(front)?;
+            self.answer_kept(alloc, sink, steps)?;
         }
-        match self.keep(front) {
-            Ok(()) => match self.answer_kept(alloc, sink, steps) {
-                Ok(()) => Ok(()),
-                Err(_) => Err(Stop::WriteFault),
-            },
-            Err(stop) => Err(stop),
-        }
+        Ok(())
     }
 
     // Answers the kept line. By its front, a line that is too long is refused as it is by all its bytes.
@@ -198,12 +208,8 @@ impl<K: Keeper> Session<K> {
         ensures same { OnErr result (self.new.line.items ≡ self.old.line.items) }
     {
         long_line_laws();
-        match answer_line(alloc, &mut self.library, &self.line, sink, steps) {
-            Ok(()) => {
-                self.line.clear();
-                Ok(())
-            }
-            Err(failed) => Err(failed),
-        }
+        answer_line(alloc, &mut self.library, &self.line, sink, steps)?;
+        self.line.clear();
+        Ok(())
     }
 }

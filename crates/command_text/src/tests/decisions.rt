@@ -1,5 +1,4 @@
-use super::{DECIDE, assert_refused};
-use crate::read_line;
+use super::{DECIDE, assert_all_faulty, assert_refused, read_pieces};
 use media_base::{Code, Command, Decision, DecisionNo, FieldName, FileNo, Refusal};
 use std::test::Fail;
 
@@ -20,32 +19,25 @@ fn faulty_decisions_are_refused(rt: HostRuntime) -> Result<(), Fail> {
         ("\"b\":1.0,\"a\":-1,\"code\":9", FieldName::Code),
         ("\"b\":1.0,\"a\":-1,\"code\":7", FieldName::A),
     ];
-    for (fields, want) in cases {
-        let line = format!(in rt.alloc(); "{DECIDE},{fields}}}")?;
-        assert_refused(&rt, rt.alloc(), line.as_bytes(), Refusal::NotARequest(want));
-    }
-    Ok(())
+    assert_all_faulty(&rt, rt.alloc(), DECIDE, &cases)
 }
 
 #[test]
 fn faulty_undos_are_refused(rt: HostRuntime) -> Result<(), Fail> {
-    let numbers = [
-        "-1",
-        "-0",
-        "1.0",
-        "1e0",
-        "4294967296",
-        "\"1\"",
-        "null",
-        "[1]",
+    let cases = [
+        ("\"decision\":-1", FieldName::Decision),
+        ("\"decision\":-0", FieldName::Decision),
+        ("\"decision\":1.0", FieldName::Decision),
+        ("\"decision\":1e0", FieldName::Decision),
+        ("\"decision\":4294967296", FieldName::Decision),
+        ("\"decision\":\"1\"", FieldName::Decision),
+        ("\"decision\":null", FieldName::Decision),
+        ("\"decision\":[1]", FieldName::Decision),
+        ("\"file\":1", FieldName::Decision),
     ];
+    assert_all_faulty(&rt, rt.alloc(), "{\"do\":\"undo\"", &cases)?;
     let want = Refusal::NotARequest(FieldName::Decision);
-    for number in numbers {
-        let line = format!(in rt.alloc(); "{{\"do\":\"undo\",\"decision\":{number}}}")?;
-        assert_refused(&rt, rt.alloc(), line.as_bytes(), want);
-    }
     assert_refused(&rt, rt.alloc(), b"{\"do\":\"undo\"}", want);
-    assert_refused(&rt, rt.alloc(), b"{\"do\":\"undo\",\"file\":1}", want);
     Ok(())
 }
 
@@ -53,17 +45,17 @@ fn faulty_undos_are_refused(rt: HostRuntime) -> Result<(), Fail> {
 #[test]
 fn decisions_are_read(rt: HostRuntime) -> Result<(), Fail> {
     let cases = [
-        (1u8, Code::NotRelated, FileNo(1), FileNo(2)),
-        (2, Code::Same, FileNo(1), FileNo(2)),
-        (3, Code::Alternates, FileNo(1), FileNo(2)),
-        (4, Code::Better, FileNo(1), FileNo(2)),
-        (7, Code::Better, FileNo(2), FileNo(1)),
+        ("1", Code::NotRelated, FileNo(1), FileNo(2)),
+        ("2", Code::Same, FileNo(1), FileNo(2)),
+        ("3", Code::Alternates, FileNo(1), FileNo(2)),
+        ("4", Code::Better, FileNo(1), FileNo(2)),
+        ("7", Code::Better, FileNo(2), FileNo(1)),
     ];
+    let front = r#" {"do":"decide","code":4,"a":1,"b":2 , "hashes":7, "code":"#;
     for (number, code, a, b) in cases {
-        let line = format!(in rt.alloc(); " {DECIDE} , \"hashes\":7, \"code\":{number}}} ")?;
-        match read_line(rt.alloc(), line.as_bytes())? {
+        match read_pieces(rt.alloc(), front, number, "} ")? {
             Command::Decide(decision) => assert_eq!(rt; decision, Decision { code, a, b }),
-            _ => panic!(rt; "no decision: {line}"),
+            _ => panic!(rt; "no decision: {number}"),
         }
     }
     Ok(())
@@ -71,11 +63,10 @@ fn decisions_are_read(rt: HostRuntime) -> Result<(), Fail> {
 
 #[test]
 fn undos_are_read(rt: HostRuntime) -> Result<(), Fail> {
-    for number in [0, 7, u32::MAX] {
-        let undo = format!(in rt.alloc(); "{{\"decision\":{number},\"do\":\"undo\"}}")?;
-        match read_line(rt.alloc(), undo.as_bytes())? {
-            Command::Undo(decision) => assert_eq!(rt; decision, DecisionNo(number)),
-            _ => panic!(rt; "no undo: {undo}"),
+    for (number, want) in &[("0", 0), ("7", 7), ("4294967295", u32::MAX)] {
+        match read_pieces(rt.alloc(), "{\"decision\":", number, ",\"do\":\"undo\"}")? {
+            Command::Undo(decision) => assert_eq!(rt; decision, DecisionNo(*want)),
+            _ => panic!(rt; "no undo: {number}"),
         }
     }
     Ok(())

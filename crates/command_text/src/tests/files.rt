@@ -1,38 +1,37 @@
-use super::assert_refused;
-use crate::read_line;
+use super::{assert_all_faulty, assert_refused, read_pieces};
 use media_base::{Command, FieldName, FileNo, Refusal};
 use std::test::Fail;
 
 #[test]
 fn faulty_files_are_refused(rt: HostRuntime) -> Result<(), Fail> {
-    let fields = [
-        "",
-        ",\"File\":1",
-        ",\"files\":[1]",
-        ",\"decision\":1",
-        ",\"file\":null",
-        ",\"file\":true",
-        ",\"file\":\"1\"",
-        ",\"file\":[1]",
-        ",\"file\":{}",
-        ",\"file\":-1",
-        ",\"file\":-0",
-        ",\"file\":1.0",
-        ",\"file\":1e0",
-        ",\"file\":4294967296",
-        ",\"file\":18446744073709551616",
-        ",\"file\":1,\"file\":null",
+    let cases = [
+        ("\"File\":1", FieldName::File),
+        ("\"files\":[1]", FieldName::File),
+        ("\"decision\":1", FieldName::File),
+        ("\"file\":null", FieldName::File),
+        ("\"file\":true", FieldName::File),
+        ("\"file\":\"1\"", FieldName::File),
+        ("\"file\":[1]", FieldName::File),
+        ("\"file\":{}", FieldName::File),
+        ("\"file\":-1", FieldName::File),
+        ("\"file\":-0", FieldName::File),
+        ("\"file\":1.0", FieldName::File),
+        ("\"file\":1e0", FieldName::File),
+        ("\"file\":4294967296", FieldName::File),
+        ("\"file\":18446744073709551616", FieldName::File),
+        ("\"file\":1,\"file\":null", FieldName::File),
     ];
+    assert_all_faulty(&rt, rt.alloc(), "{\"do\":\"delete\"", &cases)?;
+    assert_all_faulty(&rt, rt.alloc(), "{\"do\":\"undelete\"", &cases)?;
+    assert_all_faulty(&rt, rt.alloc(), "{\"do\":\"relations\"", &cases)
+}
+
+#[test]
+fn a_file_is_asked_for(rt: HostRuntime) {
     let want = Refusal::NotARequest(FieldName::File);
-    for field in fields {
-        let delete = format!(in rt.alloc(); "{{\"do\":\"delete\"{field}}}")?;
-        assert_refused(&rt, rt.alloc(), delete.as_bytes(), want);
-        let undelete = format!(in rt.alloc(); "{{\"do\":\"undelete\"{field}}}")?;
-        assert_refused(&rt, rt.alloc(), undelete.as_bytes(), want);
-        let asked = format!(in rt.alloc(); "{{\"do\":\"relations\"{field}}}")?;
-        assert_refused(&rt, rt.alloc(), asked.as_bytes(), want);
-    }
-    Ok(())
+    assert_refused(&rt, rt.alloc(), b"{\"do\":\"delete\"}", want);
+    assert_refused(&rt, rt.alloc(), b"{\"do\":\"undelete\"}", want);
+    assert_refused(&rt, rt.alloc(), b"{\"do\":\"relations\"}", want);
 }
 
 const NUMBERS: [(&str, FileNo); 4] = [
@@ -44,11 +43,10 @@ const NUMBERS: [(&str, FileNo); 4] = [
 
 #[test]
 fn deletions_are_read(rt: HostRuntime) -> Result<(), Fail> {
-    for (number, want) in NUMBERS {
-        let line = format!(in rt.alloc(); "{{\"do\":\"delete\",\"file\":{number}}}")?;
-        match read_line(rt.alloc(), line.as_bytes())? {
-            Command::Delete(file) => assert_eq!(rt; file, want),
-            _ => panic!(rt; "no deletion: {line}"),
+    for (number, want) in &NUMBERS {
+        match read_pieces(rt.alloc(), "{\"do\":\"delete\",\"file\":", number, "}")? {
+            Command::Delete(file) => assert_eq!(rt; file, *want),
+            _ => panic!(rt; "no deletion: {number}"),
         }
     }
     Ok(())
@@ -56,11 +54,15 @@ fn deletions_are_read(rt: HostRuntime) -> Result<(), Fail> {
 
 #[test]
 fn undeletions_are_read(rt: HostRuntime) -> Result<(), Fail> {
-    for (number, want) in NUMBERS {
-        let line = format!(in rt.alloc(); "{{\"file\":{number},\"do\":\"undelete\",\"n\":0}}")?;
-        match read_line(rt.alloc(), line.as_bytes())? {
-            Command::Undelete(file) => assert_eq!(rt; file, want),
-            _ => panic!(rt; "no undeletion: {line}"),
+    for (number, want) in &NUMBERS {
+        match read_pieces(
+            rt.alloc(),
+            "{\"file\":",
+            number,
+            ",\"do\":\"undelete\",\"n\":0}",
+        )? {
+            Command::Undelete(file) => assert_eq!(rt; file, *want),
+            _ => panic!(rt; "no undeletion: {number}"),
         }
     }
     Ok(())
@@ -68,11 +70,10 @@ fn undeletions_are_read(rt: HostRuntime) -> Result<(), Fail> {
 
 #[test]
 fn questions_for_relations_are_read(rt: HostRuntime) -> Result<(), Fail> {
-    for (number, want) in NUMBERS {
-        let line = format!(in rt.alloc(); "{{\"file\":{number},\"do\":\"relations\"}}")?;
-        match read_line(rt.alloc(), line.as_bytes())? {
-            Command::Relations(file) => assert_eq!(rt; file, want),
-            _ => panic!(rt; "no question: {line}"),
+    for (number, want) in &NUMBERS {
+        match read_pieces(rt.alloc(), "{\"file\":", number, ",\"do\":\"relations\"}")? {
+            Command::Relations(file) => assert_eq!(rt; file, *want),
+            _ => panic!(rt; "no question: {number}"),
         }
     }
     Ok(())

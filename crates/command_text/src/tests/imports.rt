@@ -1,6 +1,8 @@
-use super::assert_refused;
+use super::{assert_all_faulty, assert_refused};
 use crate::read_line;
-use media_base::{Command, FieldName, Hash64, Refusal};
+use media_base::{Command, FieldName, Hash64, NewFile, Refusal};
+use std::alloc::Global;
+use std::process::Abort;
 use std::test::Fail;
 
 // An import that lacks only its closing brace, and has no hashes yet.
@@ -39,27 +41,45 @@ fn faulty_imports_are_refused(rt: HostRuntime) -> Result<(), Fail> {
             FieldName::Width,
         ),
     ];
-    for (fields, want) in cases {
-        let line = format!(in rt.alloc(); "{IMPORT},{fields}}}")?;
-        assert_refused(&rt, rt.alloc(), line.as_bytes(), Refusal::NotARequest(want));
+    assert_all_faulty(&rt, rt.alloc(), IMPORT, &cases)
+}
+
+// 63 digits, behind which one more makes a hash.
+const DIGITS: &str = "00112233445566778899aabbccddeeff00112233445566778899aabbccddeef";
+
+fn assert_bad_digits(
+    rt: &impl Abort,
+    alloc: Global,
+    front: &str,
+    ends: &[&str],
+) -> Result<(), Fail> {
+    for end in ends {
+        let line = format!(in alloc; "{IMPORT},\"sha256\":\"{front}{end}\"}}")?;
+        assert_refused(rt, alloc, line.as_bytes(), Refusal::BadHash);
     }
     Ok(())
 }
 
-// 63 digits, and what may stand behind them.
 #[test]
 fn other_than_sixty_four_digits_are_a_bad_hash(rt: HostRuntime) -> Result<(), Fail> {
-    let digits = "00112233445566778899aabbccddeeff00112233445566778899aabbccddeef";
-    for end in ["", "g", "G", " ", "ff", "fff", "\u{e9}"] {
-        let line = format!(in rt.alloc(); "{IMPORT},\"sha256\":\"{digits}{end}\"}}")?;
-        assert_refused(&rt, rt.alloc(), line.as_bytes(), Refusal::BadHash);
+    let ends = ["", "g", "G", " ", "ff", "fff", "\u{e9}"];
+    assert_bad_digits(&rt, rt.alloc(), DIGITS, &ends)?;
+    assert_bad_digits(&rt, rt.alloc(), "", &["", "0", "00", "0x00"])
+}
+
+// The import that has these fields too.
+fn imported(rt: &impl Abort, alloc: Global, fields: &str) -> Result<NewFile, Fail> {
+    let line = format!(in alloc; "{IMPORT},{fields}}}")?;
+    match read_line(alloc, line.as_bytes())? {
+        Command::Import(file) => Ok(file),
+        _ => panic!(rt; "no import: {line}"),
     }
-    for text in ["", "0", "00", "0x00"] {
-        let line = format!(in rt.alloc(); "{IMPORT},\"sha256\":\"{text}\"}}")?;
-        assert_refused(&rt, rt.alloc(), line.as_bytes(), Refusal::BadHash);
-    }
+}
+
+#[test]
+fn sixty_four_digits_are_read(rt: HostRuntime) -> Result<(), Fail> {
     for end in ["0", "9", "a", "f", "A", "F"] {
-        let line = format!(in rt.alloc(); "{IMPORT},\"sha256\":\"{digits}{end}\"}}")?;
+        let line = format!(in rt.alloc(); "{IMPORT},\"sha256\":\"{DIGITS}{end}\"}}")?;
         assert!(rt; read_line(rt.alloc(), line.as_bytes()).is_ok());
     }
     Ok(())
@@ -115,40 +135,37 @@ fn more_than_four_hashes_are_refused(rt: HostRuntime) -> Result<(), Fail> {
 #[test]
 fn a_hash_is_read(rt: HostRuntime) -> Result<(), Fail> {
     let cases = [
-        ("00000000000000aa", 0xaa),
-        ("00000000000000AA", 0xaa),
-        ("aA00000000000000", 0xaa00_0000_0000_0000),
-        ("0123456789abcdef", 0x0123_4567_89ab_cdef),
-        ("ffffffffffffffff", u64::MAX),
-        ("0000000000000000", 0),
+        ("\"hashes\":[\"00000000000000aa\"]", 0xaa),
+        ("\"hashes\":[\"00000000000000AA\"]", 0xaa),
+        ("\"hashes\":[\"aA00000000000000\"]", 0xaa00_0000_0000_0000),
+        ("\"hashes\":[\"0123456789abcdef\"]", 0x0123_4567_89ab_cdef),
+        ("\"hashes\":[\"ffffffffffffffff\"]", u64::MAX),
+        ("\"hashes\":[\"0000000000000000\"]", 0),
     ];
-    for (text, want) in cases {
-        let line = format!(in rt.alloc(); "{IMPORT},\"hashes\":[\"{text}\"]}}")?;
-        match read_line(rt.alloc(), line.as_bytes())? {
-            Command::Import(file) => assert_eq!(rt;
-                file.hashes.as_slice(),
-                [Hash64(want)].as_slice()
-            ),
-            _ => panic!(rt; "no import: {line}"),
-        }
+    for (fields, want) in cases {
+        let file = imported(&rt, rt.alloc(), fields)?;
+        assert_eq!(rt; file.hashes.as_slice(), [Hash64(want)].as_slice());
     }
     Ok(())
 }
 
 #[test]
 fn hashes_keep_their_order(rt: HostRuntime) -> Result<(), Fail> {
-    let texts = r#""0000000000000003","0000000000000001","0000000000000003","0000000000000002""#;
-    let line = format!(in rt.alloc(); "{IMPORT},\"hashes\":[{texts}]}}")?;
-    match read_line(rt.alloc(), line.as_bytes())? {
-        Command::Import(file) => {
-            assert_eq!(rt;
-                file.hashes.as_slice(),
-                [Hash64(3), Hash64(1), Hash64(3), Hash64(2)].as_slice()
-            );
-        }
-        _ => panic!(rt; "no import: {line}"),
-    }
+    let fields =
+        r#""hashes":["0000000000000003","0000000000000001","0000000000000003","0000000000000002"]"#;
+    let file = imported(&rt, rt.alloc(), fields)?;
+    assert_eq!(rt;
+        file.hashes.as_slice(),
+        [Hash64(3), Hash64(1), Hash64(3), Hash64(2)].as_slice()
+    );
     Ok(())
+}
+
+// It has no hashes.
+fn assert_measures(rt: &impl Abort, file: &NewFile, size: u64, width: u32, height: u32) {
+    assert_eq!(rt; (file.sha.0[1], file.sha.0[16]), (0x11, 0xff));
+    assert!(rt; file.hashes.as_slice().is_empty());
+    assert_eq!(rt; (file.size, file.width, file.height), (size, width, height));
 }
 
 #[test]
@@ -161,18 +178,8 @@ fn imports_are_read(rt: HostRuntime) -> Result<(), Fail> {
         ("\"size\":\"1\",\"size\":5,\"Size\":[]", 5, 2, 3),
     ];
     for (fields, size, width, height) in cases {
-        let line = format!(in rt.alloc(); "{IMPORT},{fields}}}")?;
-        match read_line(rt.alloc(), line.as_bytes())? {
-            Command::Import(file) => {
-                assert_eq!(rt; file.sha.0[1], 0x11);
-                assert_eq!(rt; file.sha.0[16], 0xff);
-                assert!(rt; file.hashes.as_slice().is_empty());
-                assert_eq!(rt; file.size, size);
-                assert_eq!(rt; file.width, width);
-                assert_eq!(rt; file.height, height);
-            }
-            _ => panic!(rt; "no import: {line}"),
-        }
+        let file = imported(&rt, rt.alloc(), fields)?;
+        assert_measures(&rt, &file, size, width, height);
     }
     Ok(())
 }

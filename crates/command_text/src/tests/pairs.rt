@@ -1,4 +1,4 @@
-use super::assert_refused;
+use super::{assert_all_faulty, assert_all_refused, read_pieces};
 use crate::read_line;
 use media_base::{Command, FieldName, FileNo, Refusal};
 use std::test::Fail;
@@ -22,11 +22,8 @@ fn faulty_places_are_refused(rt: HostRuntime) -> Result<(), Fail> {
         ("\"after_j\":4294967296,\"after_k\":8", FieldName::AfterJ),
         ("\"after_J\":7,\"after_k\":8", FieldName::AfterJ),
     ];
-    for (place, want) in cases {
-        let line = format!(in rt.alloc(); "{{\"do\":\"pairs\",\"n\":0,\"at_most\":17,{place}}}")?;
-        assert_refused(&rt, rt.alloc(), line.as_bytes(), Refusal::NotARequest(want));
-    }
-    Ok(())
+    let front = "{\"do\":\"pairs\",\"n\":0,\"at_most\":17";
+    assert_all_faulty(&rt, rt.alloc(), front, &cases)
 }
 
 // The forms come first, then the distance, then the number of pairs.
@@ -57,14 +54,9 @@ fn faulty_pages_are_refused(rt: HostRuntime) -> Result<(), Fail> {
             Refusal::BadNumber,
         ),
     ];
-    for (fields, want) in cases {
-        let first = format!(in rt.alloc(); "{{\"do\":\"pairs\",{fields}}}")?;
-        assert_refused(&rt, rt.alloc(), first.as_bytes(), want);
-        let place = "\"after_j\":0,\"after_k\":0";
-        let later = format!(in rt.alloc(); "{{\"do\":\"pairs\",{place},{fields}}}")?;
-        assert_refused(&rt, rt.alloc(), later.as_bytes(), want);
-    }
-    Ok(())
+    assert_all_refused(&rt, rt.alloc(), "{\"do\":\"pairs\"", &cases)?;
+    let behind = "{\"do\":\"pairs\",\"after_j\":0,\"after_k\":0";
+    assert_all_refused(&rt, rt.alloc(), behind, &cases)
 }
 
 // A place may be of any two numbers.
@@ -130,21 +122,16 @@ fn faulty_counts_are_refused(rt: HostRuntime) -> Result<(), Fail> {
         ("\"at_most\":17", Refusal::BadDistance),
         ("\"at_most\":18446744073709551615", Refusal::BadDistance),
     ];
-    for (fields, want) in cases {
-        let line = format!(in rt.alloc(); "{{\"do\":\"pair_count\",{fields}}}")?;
-        assert_refused(&rt, rt.alloc(), line.as_bytes(), want);
-    }
-    Ok(())
+    assert_all_refused(&rt, rt.alloc(), "{\"do\":\"pair_count\"", &cases)
 }
 
 #[test]
 fn counts_are_read(rt: HostRuntime) -> Result<(), Fail> {
-    for bits in [0u8, 8, 16] {
-        let fields = "\"after_j\":null,\"n\":0";
-        let line = format!(in rt.alloc(); "{{\"do\":\"pair_count\",\"at_most\":{bits},{fields}}}")?;
-        match read_line(rt.alloc(), line.as_bytes())? {
-            Command::PairCount(distance) => assert_eq!(rt; distance.bits(), bits),
-            _ => panic!(rt; "no count: {line}"),
+    let front = "{\"do\":\"pair_count\",\"at_most\":";
+    for (number, bits) in &[("0", 0), ("8", 8), ("16", 16)] {
+        match read_pieces(rt.alloc(), front, number, ",\"after_j\":null,\"n\":0}")? {
+            Command::PairCount(distance) => assert_eq!(rt; distance.bits(), *bits),
+            _ => panic!(rt; "no count: {number}"),
         }
     }
     Ok(())

@@ -1,7 +1,7 @@
-use super::assert_refused;
-use crate::read_line;
-use media_base::{Command, FieldName, FileNo, Refusal};
+use super::{assert_all_refused, assert_refused, read_pieces};
+use media_base::{Command, FieldName, FileNo, Refusal, Searching};
 use std::alloc::{AllocError, Global};
+use std::process::Abort;
 use std::test::Fail;
 
 #[test]
@@ -20,12 +20,9 @@ fn faulty_distances_are_refused(rt: HostRuntime) -> Result<(), Fail> {
         ("\"distance\":4294967304", Refusal::BadDistance),
         ("\"distance\":18446744073709551615", Refusal::BadDistance),
     ];
-    for (fields, want) in cases {
-        let line = format!(in rt.alloc(); "{{\"do\":\"search_distance\",{fields}}}")?;
-        assert_refused(&rt, rt.alloc(), line.as_bytes(), want);
-        let files = format!(in rt.alloc(); "{{\"do\":\"search_files\",\"files\":[],{fields}}}")?;
-        assert_refused(&rt, rt.alloc(), files.as_bytes(), want);
-    }
+    assert_all_refused(&rt, rt.alloc(), "{\"do\":\"search_distance\"", &cases)?;
+    let searching = "{\"do\":\"search_files\",\"files\":[]";
+    assert_all_refused(&rt, rt.alloc(), searching, &cases)?;
     assert_refused(&rt, rt.alloc(), b"{\"do\":\"search_distance\"}", faulty);
     Ok(())
 }
@@ -46,11 +43,7 @@ fn faulty_search_jobs_are_refused(rt: HostRuntime) -> Result<(), Fail> {
         ("\"n\":4294967297", Refusal::BadNumber),
         ("\"n\":18446744073709551615", Refusal::BadNumber),
     ];
-    for (fields, want) in cases {
-        let line = format!(in rt.alloc(); "{{\"do\":\"search_job\",{fields}}}")?;
-        assert_refused(&rt, rt.alloc(), line.as_bytes(), want);
-    }
-    Ok(())
+    assert_all_refused(&rt, rt.alloc(), "{\"do\":\"search_job\"", &cases)
 }
 
 // The forms come first, then the distance, then the number of files.
@@ -77,20 +70,16 @@ fn faulty_searches_of_files_are_refused(rt: HostRuntime) -> Result<(), Fail> {
         ("\"files\":[7],\"distance\":17", Refusal::BadDistance),
         ("\"files\":[],\"distance\":16", Refusal::BadNumber),
     ];
-    for (fields, want) in cases {
-        let line = format!(in rt.alloc(); "{{\"do\":\"search_files\",{fields}}}")?;
-        assert_refused(&rt, rt.alloc(), line.as_bytes(), want);
-    }
-    Ok(())
+    assert_all_refused(&rt, rt.alloc(), "{\"do\":\"search_files\"", &cases)
 }
 
 #[test]
 fn distances_are_read(rt: HostRuntime) -> Result<(), Fail> {
-    for bits in [0u8, 8, 16] {
-        let line = format!(in rt.alloc(); "{{\"distance\":{bits},\"do\":\"search_distance\"}}")?;
-        match read_line(rt.alloc(), line.as_bytes())? {
-            Command::SearchDistance(distance) => assert_eq!(rt; distance.bits(), bits),
-            _ => panic!(rt; "no distance: {line}"),
+    let end = ",\"do\":\"search_distance\"}";
+    for (number, bits) in &[("0", 0), ("8", 8), ("16", 16)] {
+        match read_pieces(rt.alloc(), "{\"distance\":", number, end)? {
+            Command::SearchDistance(distance) => assert_eq!(rt; distance.bits(), *bits),
+            _ => panic!(rt; "no distance: {number}"),
         }
     }
     Ok(())
@@ -98,11 +87,11 @@ fn distances_are_read(rt: HostRuntime) -> Result<(), Fail> {
 
 #[test]
 fn search_jobs_are_read(rt: HostRuntime) -> Result<(), Fail> {
-    for number in [1u32, 2, 1_024] {
-        let line = format!(in rt.alloc(); "{{\"n\":{number},\"do\":\"search_job\",\"files\":7}}")?;
-        match read_line(rt.alloc(), line.as_bytes())? {
-            Command::SearchJob(n) => assert_eq!(rt; n.number(), number),
-            _ => panic!(rt; "no job: {line}"),
+    let end = ",\"do\":\"search_job\",\"files\":7}";
+    for (number, want) in &[("1", 1), ("2", 2), ("1024", 1_024)] {
+        match read_pieces(rt.alloc(), "{\"n\":", number, end)? {
+            Command::SearchJob(n) => assert_eq!(rt; n.number(), *want),
+            _ => panic!(rt; "no job: {number}"),
         }
     }
     Ok(())
@@ -120,21 +109,29 @@ fn search_up_to(alloc: Global, last: u32) -> Result<String, AllocError> {
     Ok(line)
 }
 
+fn searching_of(rt: &impl Abort, alloc: Global, line: &str) -> Result<Searching, Fail> {
+    match read_pieces(alloc, line, "", "")? {
+        Command::SearchFiles(searching) => Ok(searching),
+        _ => panic!(rt; "no search: {line}"),
+    }
+}
+
+fn assert_searches_up_to(rt: &impl Abort, alloc: Global, last: u32) -> Result<(), Fail> {
+    let line = search_up_to(alloc, last)?;
+    let searching = searching_of(rt, alloc, line.as_str())?;
+    assert_eq!(rt; searching.distance.bits(), 16);
+    assert_eq!(rt; searching.files.as_slice().len(), last as usize + 1);
+    assert_eq!(rt;
+        searching.files.as_slice().last().copied(),
+        Some(FileNo(last))
+    );
+    Ok(())
+}
+
 #[test]
 fn searches_of_files_are_read(rt: HostRuntime) -> Result<(), Fail> {
     for last in [0, 1, 1_023] {
-        let line = search_up_to(rt.alloc(), last)?;
-        match read_line(rt.alloc(), line.as_bytes())? {
-            Command::SearchFiles(searching) => {
-                assert_eq!(rt; searching.distance.bits(), 16);
-                assert_eq!(rt; searching.files.as_slice().len(), last as usize + 1);
-                assert_eq!(rt;
-                    searching.files.as_slice().last().copied(),
-                    Some(FileNo(last))
-                );
-            }
-            _ => panic!(rt; "no search: {line}"),
-        }
+        assert_searches_up_to(&rt, rt.alloc(), last)?;
     }
     let many = search_up_to(rt.alloc(), 1_024)?;
     assert_refused(&rt, rt.alloc(), many.as_bytes(), Refusal::BadNumber);
@@ -143,16 +140,12 @@ fn searches_of_files_are_read(rt: HostRuntime) -> Result<(), Fail> {
 
 #[test]
 fn the_files_of_a_search_keep_their_order(rt: HostRuntime) -> Result<(), Fail> {
-    let line = b"{\"do\":\"search_files\",\"distance\":0,\"files\":[9,4294967295,9,0]}";
-    match read_line(rt.alloc(), line)? {
-        Command::SearchFiles(searching) => {
-            assert_eq!(rt;
-                searching.files.as_slice(),
-                [FileNo(9), FileNo(u32::MAX), FileNo(9), FileNo(0)].as_slice()
-            );
-        }
-        _ => panic!(rt; "no search"),
-    }
+    let line = "{\"do\":\"search_files\",\"distance\":0,\"files\":[9,4294967295,9,0]}";
+    let searching = searching_of(&rt, rt.alloc(), line)?;
+    assert_eq!(rt;
+        searching.files.as_slice(),
+        [FileNo(9), FileNo(u32::MAX), FileNo(9), FileNo(0)].as_slice()
+    );
     Ok(())
 }
 
@@ -166,10 +159,9 @@ const OTHER_FIELDS: [&str; 4] = [
 #[test]
 fn questions_for_queues_are_read(rt: HostRuntime) -> Result<(), Fail> {
     for fields in OTHER_FIELDS {
-        let line = format!(in rt.alloc(); "{{\"do\":\"queues\"{fields}}}")?;
-        match read_line(rt.alloc(), line.as_bytes())? {
+        match read_pieces(rt.alloc(), "{\"do\":\"queues\"", fields, "}")? {
             Command::Queues => {}
-            _ => panic!(rt; "no question: {line}"),
+            _ => panic!(rt; "no question: {fields}"),
         }
     }
     Ok(())
@@ -178,10 +170,9 @@ fn questions_for_queues_are_read(rt: HostRuntime) -> Result<(), Fail> {
 #[test]
 fn rebalance_jobs_are_read(rt: HostRuntime) -> Result<(), Fail> {
     for fields in OTHER_FIELDS {
-        let line = format!(in rt.alloc(); "{{\"do\":\"rebalance_job\"{fields}}}")?;
-        match read_line(rt.alloc(), line.as_bytes())? {
+        match read_pieces(rt.alloc(), "{\"do\":\"rebalance_job\"", fields, "}")? {
             Command::RebalanceJob => {}
-            _ => panic!(rt; "no job: {line}"),
+            _ => panic!(rt; "no job: {fields}"),
         }
     }
     Ok(())

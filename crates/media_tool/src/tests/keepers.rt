@@ -1,17 +1,12 @@
 //! Sessions over keepers in memory.
 
-ghost use Rattle.std.specs.Prelude.{◌≡◌, ◌<◌};
-
-use super::{FOUR_LINES, FOUR_REPLIES};
-use crate::run;
+use super::{DECISION_0, FILE_0, FILE_1, FOUR_LINES, FOUR_REPLIES, RELATED};
 use crate::tests::lines::{Line, input_of};
-use crate::tests::playing::source_of;
-use media_base::{BytesSink, BytesSource, CallList, ChangeList, Keeper, NoMemory, Status, Steps};
+use crate::tests::playing::{Outlet, assert_replies, calls_of, owned_words, run_over, source_of};
+use media_base::{BytesSource, Change, ChangeList, NoMemory, Status};
 use media_keeper::MemoryKeeper;
 use std::alloc::Global;
-use std::marker::Brand;
 use std::process::Abort;
-use std::sync::ledger::{Blank, Ledger};
 use std::test::Fail;
 use std::thread::Threads;
 
@@ -29,29 +24,6 @@ pub struct Ended {
     pub keeper: MemoryKeeper,
 }
 
-impl Ended {
-    // It ended so, wrote these replies, and its keeper keeps so many changes.
-    fn assert(&self, rt: &impl Abort, status: Status, replies: &[&str], kept: usize) {
-        assert_eq!(rt; self.status, status);
-        let mut rest = self.written.as_slice();
-        for reply in replies {
-            assert!(rt; rest.starts_with(reply.as_bytes()), "expected {reply}");
-            let (_, after) = rest.split_at(reply.len().min(rest.len()));
-            rest = after;
-        }
-        assert!(rt; rest.is_empty());
-        assert_eq!(rt; self.keeper.changes().len(), kept);
-    }
-}
-
-fn calls_of(alloc: Global, call: u64) -> Result<CallList, NoMemory> {
-    let mut calls = CallList::new(alloc);
-    if call != 0 {
-        calls.push(call)?;
-    }
-    Ok(calls)
-}
-
 /// A keeper with room for so many changes whose call of this number fails, if that isn't 0.
 pub fn keeper_of(
     alloc: Global,
@@ -60,24 +32,6 @@ pub fn keeper_of(
     limit: u64,
 ) -> Result<MemoryKeeper, NoMemory> {
     Ok(MemoryKeeper::new(alloc, kept, calls_of(alloc, failing_call)?, limit))
-}
-
-/// A session over a keeper, with a ledger of its own.
-pub fn run_counted<K: Keeper, L: Ledger>(
-    rt: &impl Threads,
-    alloc: Global,
-    words: &[String],
-    source: &mut BytesSource,
-    sink: &mut BytesSink,
-    keeper: K,
-    blank: Blank,
-) -> (Status, K)
-    requires name { blank.name ≡ L.name }
-    requires parts { blank.parts ≡ L.parts }
-    requires some { 0 < L.parts }
-{
-    let mut steps = Steps::<L>::new(rt, blank);
-    run(alloc, words, source, sink, keeper, &mut steps)
 }
 
 /// Plays the input over the keeper. The write of this number fails, if that isn't 0.
@@ -89,21 +43,20 @@ pub fn session_over(
     failing_write: u64,
 ) -> Result<Ended, Fail> {
     let mut source = source_of(rt, alloc, input, 65_536, 0)?;
-    let mut sink = BytesSink::new(alloc, 4_194_304, calls_of(alloc, failing_write)?)?;
-    let words = vec![in alloc;
-        String::from_str(alloc, "play")?,
-        String::from_str(alloc, "-")?,
-    ]?;
-    let (status, keeper) = run_counted::<_, Brand>(
-        rt,
-        alloc,
-        &words,
-        &mut source,
-        &mut sink,
-        keeper,
-        Blank::new(1),
-    );
-    let written = Vec::from_slice(alloc, sink.bytes().as_slice())?;
+    ended_over(rt, alloc, &mut source, keeper, failing_write)
+}
+
+fn ended_over(
+    rt: &impl Threads,
+    alloc: Global,
+    source: &mut BytesSource,
+    keeper: MemoryKeeper,
+    failing_write: u64,
+) -> Result<Ended, Fail> {
+    let words = owned_words(alloc, &["play", "-"])?;
+    let mut outlet = Outlet::new(alloc, false, failing_write)?;
+    let (status, keeper) = run_over(rt, alloc, &words, source, &mut outlet, keeper);
+    let written = Vec::from_slice(alloc, outlet.written())?;
     Ok(Ended {
         status,
         written,
@@ -111,173 +64,296 @@ pub fn session_over(
     })
 }
 
-// The same for the input of these lines.
-fn played_over(
-    rt: &(impl Threads + Abort),
-    alloc: Global,
-    lines: &[Line],
-    keeper: MemoryKeeper,
+/// A session over a keeper, and what it must leave.
+#[derive(Clone, Copy)]
+struct Case {
+    lines: &'static [Line],
+    /// The call of the keeper that fails, if this isn't 0.
+    failing_call: u64,
+    /// How many changes the keeper has room for.
+    limit: u64,
+    /// The write of the session that fails, if this isn't 0.
     failing_write: u64,
-) -> Result<Ended, Fail> {
-    session_over(rt, alloc, &input_of(alloc, lines)?, keeper, failing_write)
+    status: Status,
+    replies: &'static [&'static str],
+    kept: usize,
 }
 
-#[test]
-fn a_change_that_is_not_kept_is_refused(rt: HostRuntime) -> Result<(), Fail> {
-    let alloc = rt.alloc();
-    let lines = [Line::Import(0), Line::Import(1), Line::Import(1)];
-    let [first, second, _, _] = FOUR_REPLIES;
-    let failing = keeper_of(alloc, ChangeList::new(alloc), 3, 100)?;
-    played_over(&rt, alloc, &lines, failing, 0)?.assert(
-        &rt,
-        Status::Done,
-        &[first, NOT_KEPT, second],
-        2,
-    );
-    let full = keeper_of(alloc, ChangeList::new(alloc), 0, 1)?;
-    played_over(&rt, alloc, &lines, full, 0)?.assert(
-        &rt,
-        Status::Done,
-        &[first, JOURNAL_FULL, JOURNAL_FULL],
-        1,
-    );
-    Ok(())
+impl Case {
+    /// The four lines, and no call fails.
+    const PLAIN: Case = Case {
+        lines: &FOUR_LINES,
+        failing_call: 0,
+        limit: 100,
+        failing_write: 0,
+        status: Status::Done,
+        replies: &FOUR_REPLIES,
+        kept: 3,
+    };
+
+    // Plays it over a keeper that keeps these changes before.
+    fn assert_from(
+        &self,
+        rt: &(impl Threads + Abort),
+        alloc: Global,
+        kept: ChangeList,
+    ) -> Result<MemoryKeeper, Fail> {
+        let keeper = keeper_of(alloc, kept, self.failing_call, self.limit)?;
+        self.assert_over(rt, alloc, keeper)
+    }
+
+    // Plays it over this keeper, which comes back.
+    fn assert_over(
+        &self,
+        rt: &(impl Threads + Abort),
+        alloc: Global,
+        keeper: MemoryKeeper,
+    ) -> Result<MemoryKeeper, Fail> {
+        let input = input_of(alloc, self.lines)?;
+        let ended = session_over(rt, alloc, &input, keeper, self.failing_write)?;
+        self.assert_ended(rt, alloc, &ended)?;
+        Ok(ended.keeper)
+    }
+
+    fn assert_ended(&self, rt: &impl Abort, alloc: Global, ended: &Ended) -> Result<(), Fail> {
+        assert_eq!(rt; ended.status, self.status);
+        assert_replies(rt, alloc, &ended.written, self.replies)?;
+        assert_eq!(rt; ended.keeper.changes().len(), self.kept);
+        Ok(())
+    }
 }
 
-// The calls are a start and three puts: the question at the end puts nothing.
-#[test]
-fn each_call_of_the_keeper_fails_in_turn(rt: HostRuntime) -> Result<(), Fail> {
-    let alloc = rt.alloc();
-    let [first, second, decided, related] = FOUR_REPLIES;
-    let alone = "{\"king\":1,\"members\":[1],\"alternates\":[],\"not_related\":[]}\n";
-    let table: [(u64, &[&str], usize); 5] = [
-        (1, &[], 0),
-        (2, &[NOT_KEPT, first, UNKNOWN_FILE, UNKNOWN_FILE], 1),
-        (3, &[first, NOT_KEPT, UNKNOWN_FILE, UNKNOWN_FILE], 1),
-        (4, &[first, second, NOT_KEPT, alone], 2),
-        (5, &[first, second, decided, related], 3),
-    ];
-    for (call, replies, kept) in table {
-        let status = if call == 1 {
-            Status::StoreFault
-        } else {
-            Status::Done
-        };
-        let keeper = keeper_of(alloc, ChangeList::new(alloc), call, 100)?;
-        played_over(&rt, alloc, &FOUR_LINES, keeper, 0)?.assert(&rt, status, replies, kept);
+// Each over a keeper that keeps nothing before.
+fn assert_all(rt: &(impl Threads + Abort), alloc: Global, cases: &[Case]) -> Result<(), Fail> {
+    for case in cases {
+        drop(case.assert_from(rt, alloc, ChangeList::new(alloc))?);
     }
     Ok(())
 }
+
+const REFUSED_CHANGES: [Case; 2] = [
+    Case {
+        lines: &[Line::Import(0), Line::Import(1), Line::Import(1)],
+        failing_call: 3,
+        replies: &[FILE_0, NOT_KEPT, FILE_1],
+        kept: 2,
+        ..Case::PLAIN
+    },
+    Case {
+        lines: &[Line::Import(0), Line::Import(1), Line::Import(1)],
+        limit: 1,
+        replies: &[FILE_0, JOURNAL_FULL, JOURNAL_FULL],
+        kept: 1,
+        ..Case::PLAIN
+    },
+];
+
+#[test]
+fn a_change_that_is_not_kept_is_refused(rt: HostRuntime) -> Result<(), Fail> {
+    assert_all(&rt, rt.alloc(), &REFUSED_CHANGES)
+}
+
+// The calls are a start and three puts: the question at the end puts nothing.
+const FAILING_CALLS: [Case; 5] = [
+    Case {
+        failing_call: 1,
+        status: Status::StoreFault,
+        replies: &[],
+        kept: 0,
+        ..Case::PLAIN
+    },
+    Case {
+        failing_call: 2,
+        replies: &[NOT_KEPT, FILE_0, UNKNOWN_FILE, UNKNOWN_FILE],
+        kept: 1,
+        ..Case::PLAIN
+    },
+    Case {
+        failing_call: 3,
+        replies: &[FILE_0, NOT_KEPT, UNKNOWN_FILE, UNKNOWN_FILE],
+        kept: 1,
+        ..Case::PLAIN
+    },
+    Case {
+        failing_call: 4,
+        replies: &[
+            FILE_0,
+            FILE_1,
+            NOT_KEPT,
+            "{\"king\":1,\"members\":[1],\"alternates\":[],\"not_related\":[]}\n",
+        ],
+        kept: 2,
+        ..Case::PLAIN
+    },
+    Case {
+        failing_call: 5,
+        ..Case::PLAIN
+    },
+];
+
+#[test]
+fn each_call_of_the_keeper_fails_in_turn(rt: HostRuntime) -> Result<(), Fail> {
+    assert_all(&rt, rt.alloc(), &FAILING_CALLS)
+}
+
+const FAILING_WRITES: [Case; 4] = [
+    Case {
+        failing_write: 1,
+        status: Status::WriteFault,
+        replies: &[],
+        kept: 1,
+        ..Case::PLAIN
+    },
+    Case {
+        failing_write: 2,
+        status: Status::WriteFault,
+        replies: &[FILE_0],
+        kept: 2,
+        ..Case::PLAIN
+    },
+    Case {
+        failing_write: 3,
+        status: Status::WriteFault,
+        replies: &[FILE_0, FILE_1],
+        ..Case::PLAIN
+    },
+    Case {
+        failing_write: 4,
+        status: Status::WriteFault,
+        replies: &[FILE_0, FILE_1, DECISION_0],
+        ..Case::PLAIN
+    },
+];
 
 // A command whose reply isn't written has been done, and no line behind it.
 #[test]
 fn what_was_done_before_a_write_fault_is_kept(rt: HostRuntime) -> Result<(), Fail> {
-    let alloc = rt.alloc();
-    let [first, second, decided, _] = FOUR_REPLIES;
-    let table: [(u64, &[&str], usize); 4] = [
-        (1, &[], 1),
-        (2, &[first], 2),
-        (3, &[first, second], 3),
-        (4, &[first, second, decided], 3),
-    ];
-    for (write, replies, kept) in table {
-        let keeper = keeper_of(alloc, ChangeList::new(alloc), 0, 100)?;
-        played_over(&rt, alloc, &FOUR_LINES, keeper, write)?.assert(
-            &rt,
-            Status::WriteFault,
-            replies,
-            kept,
-        );
+    assert_all(&rt, rt.alloc(), &FAILING_WRITES)
+}
+
+fn push_copies(
+    alloc: Global,
+    copies: &mut ChangeList,
+    change: &Change,
+    count: usize,
+) -> Result<(), NoMemory> {
+    for _ in 0..count {
+        copies.push(change.copied(alloc)?)?;
     }
     Ok(())
 }
 
-// So many copies of the change that a session with one import keeps.
-fn equal_imports(
+// So many copies of each change, one behind the other.
+fn copies_of(alloc: Global, changes: &ChangeList, count: usize) -> Result<ChangeList, NoMemory> {
+    let mut copies = ChangeList::new(alloc);
+    for change in changes.as_slice() {
+        push_copies(alloc, &mut copies, change, count)?;
+    }
+    Ok(copies)
+}
+
+const ONE_IMPORT: Case = Case {
+    lines: &[Line::Import(0)],
+    replies: &[FILE_0],
+    kept: 1,
+    ..Case::PLAIN
+};
+
+// Each keeper keeps copies of one import.
+const UNOPENED: [Case; 3] = [
+    Case {
+        status: Status::BadStore(1),
+        replies: &[],
+        kept: 2,
+        ..Case::PLAIN
+    },
+    Case {
+        failing_call: 1,
+        status: Status::StoreFault,
+        replies: &[],
+        kept: 1,
+        ..Case::PLAIN
+    },
+    Case {
+        failing_call: 2,
+        status: Status::StoreFault,
+        replies: &[],
+        kept: 1,
+        ..Case::PLAIN
+    },
+];
+
+// Each over a keeper of copies of these changes.
+fn assert_unopened(
     rt: &(impl Threads + Abort),
     alloc: Global,
-    count: usize,
-) -> Result<ChangeList, Fail> {
-    let empty = keeper_of(alloc, ChangeList::new(alloc), 0, 100)?;
-    let session = played_over(rt, alloc, &[Line::Import(0)], empty, 0)?;
-    let mut changes = ChangeList::new(alloc);
-    for change in session.keeper.changes().as_slice() {
-        for _ in 0..count {
-            changes.push(change.copied(alloc)?)?;
-        }
+    changes: &ChangeList,
+    cases: &[Case],
+) -> Result<(), Fail> {
+    for case in cases {
+        let kept = copies_of(alloc, changes, case.kept)?;
+        drop(case.assert_from(rt, alloc, kept)?);
     }
-    Ok(changes)
+    Ok(())
 }
 
 #[test]
 fn a_library_that_does_not_open_ends_the_session(rt: HostRuntime) -> Result<(), Fail> {
     let alloc = rt.alloc();
-    let table = [
-        (2, 0, Status::BadStore(1)),
-        (1, 1, Status::StoreFault),
-        (1, 2, Status::StoreFault),
-    ];
-    for (imports, failing_call, status) in table {
-        let kept = equal_imports(&rt, alloc, imports)?;
-        let keeper = keeper_of(alloc, kept, failing_call, 100)?;
-        played_over(&rt, alloc, &FOUR_LINES, keeper, 0)?.assert(&rt, status, &[], imports);
-    }
-    Ok(())
+    let imported = ONE_IMPORT.assert_from(&rt, alloc, ChangeList::new(alloc))?;
+    assert_unopened(&rt, alloc, imported.changes(), &UNOPENED)
 }
 
+const REOPENED: Case = Case {
+    lines: &[Line::Relations(1), Line::Import(1)],
+    replies: &[RELATED, "{\"file\":1,\"status\":2}\n"],
+    ..Case::PLAIN
+};
+
+// In the same keeper, and in another that keeps copies.
 #[test]
 fn what_one_session_kept_opens_the_next(rt: HostRuntime) -> Result<(), Fail> {
     let alloc = rt.alloc();
-    let [_, _, _, related] = FOUR_REPLIES;
-    let empty = keeper_of(alloc, ChangeList::new(alloc), 0, 100)?;
-    let first = played_over(&rt, alloc, &FOUR_LINES, empty, 0)?;
-    first.assert(&rt, Status::Done, &FOUR_REPLIES, 3);
-    let mut kept = ChangeList::new(alloc);
-    for change in first.keeper.changes().as_slice() {
-        kept.push(change.copied(alloc)?)?;
-    }
-    let other = keeper_of(alloc, kept, 0, 100)?;
-    for keeper in [first.keeper, other] {
-        let known = "{\"file\":1,\"status\":2}\n";
-        played_over(
-            &rt,
-            alloc,
-            &[Line::Relations(1), Line::Import(1)],
-            keeper,
-            0,
-        )?
-        .assert(&rt, Status::Done, &[related, known], 3);
-    }
+    let first = Case::PLAIN.assert_from(&rt, alloc, ChangeList::new(alloc))?;
+    let kept = copies_of(alloc, first.changes(), 1)?;
+    drop(REOPENED.assert_over(&rt, alloc, first)?);
+    drop(REOPENED.assert_from(&rt, alloc, kept)?);
     Ok(())
 }
 
-// Searched distances, the distance and the queue are those of the first session.
-#[test]
-fn a_search_goes_on_in_the_next_session(rt: HostRuntime) -> Result<(), Fail> {
-    let alloc = rt.alloc();
-    let empty = keeper_of(alloc, ChangeList::new(alloc), 0, 100)?;
-    let lines = [
+const SEARCHED: &str = "{\"searched\":1,\"left\":1}\n";
+
+const DISTANCE_9: &str = "{\"distance\":9}\n";
+
+const SEARCHING: Case = Case {
+    lines: &[
         Line::Hashed(0, 0xaa),
         Line::Hashed(1, 0xaa),
         Line::SearchJob(1),
         Line::SearchDistance(9),
         Line::Search(1, 10),
-    ];
-    let first = played_over(&rt, alloc, &lines, empty, 0)?;
-    let [new, other, _, _] = FOUR_REPLIES;
-    let searched = "{\"searched\":1,\"left\":1}\n";
-    let replies = [new, other, searched, "{\"distance\":9}\n", searched];
-    first.assert(&rt, Status::Done, &replies, 5);
-    let asked = [Line::QUEUES, Line::SearchDistance(9), Line::SearchJob(5)];
-    played_over(&rt, alloc, &asked, first.keeper, 0)?.assert(
-        &rt,
-        Status::Done,
-        &[
-            "{\"search\":1,\"display\":0}\n",
-            "{\"distance\":9}\n",
-            "{\"searched\":1,\"left\":0}\n",
-        ],
-        6,
-    );
+    ],
+    replies: &[FILE_0, FILE_1, SEARCHED, DISTANCE_9, SEARCHED],
+    kept: 5,
+    ..Case::PLAIN
+};
+
+const SEARCHED_ON: Case = Case {
+    lines: &[Line::QUEUES, Line::SearchDistance(9), Line::SearchJob(5)],
+    replies: &[
+        "{\"search\":1,\"display\":0}\n",
+        DISTANCE_9,
+        "{\"searched\":1,\"left\":0}\n",
+    ],
+    kept: 6,
+    ..Case::PLAIN
+};
+
+// Searched distances, the distance and the queue are those of the first session.
+#[test]
+fn a_search_goes_on_in_the_next_session(rt: HostRuntime) -> Result<(), Fail> {
+    let alloc = rt.alloc();
+    let first = SEARCHING.assert_from(&rt, alloc, ChangeList::new(alloc))?;
+    drop(SEARCHED_ON.assert_over(&rt, alloc, first)?);
     Ok(())
 }

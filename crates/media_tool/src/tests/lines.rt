@@ -34,7 +34,7 @@ impl Code {
 }
 
 /// A line of a session, with its line feed but for `Text`.
-#[derive(Clone, Copy, Debug)]
+#[derive(Clone, Copy)]
 pub enum Line {
     /// The import of the file whose SHA-256 is this number.
     Import(u32),
@@ -95,7 +95,10 @@ impl Line {
             Line::SearchBoth(one, other, distance) => {
                 write_search(input, &[*one, *other], *distance)
             }
-            Line::Spaces(count) => write_spaces(input, *count),
+            Line::Spaces(count) => {
+                push_spaces(input, *count)?;
+                input.push('\n')
+            }
             Line::Text(text) => input.push_str(text),
         }
     }
@@ -139,11 +142,11 @@ fn write_search(input: &mut String, files: &[u32], distance: u8) -> Result<(), A
     )
 }
 
-fn write_spaces(input: &mut String, count: usize) -> Result<(), AllocError> {
+pub fn push_spaces(input: &mut String, count: usize) -> Result<(), AllocError> {
     for _ in 0..count {
         input.push(' ')?;
     }
-    input.push('\n')
+    Ok(())
 }
 
 pub fn input_of(alloc: Global, lines: &[Line]) -> Result<String, AllocError> {

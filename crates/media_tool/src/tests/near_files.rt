@@ -110,44 +110,65 @@ fn imported(alloc: Global, files: &[Known]) -> Result<Script, AllocError> {
     Ok(script)
 }
 
-// Searches a file.
-fn search(
+/// A session of near files, which are searched one after the other.
+#[derive(Drop)]
+struct NearSession {
     alloc: Global,
-    script: &mut Script,
-    files: &mut [Known],
-    number: u32,
-    reach: u8,
-) -> Result<(), AllocError> {
-    if let Some(file) = files.get_mut(number as usize) {
-        file.reach = Some(reach);
-    }
-    let left = files.iter().filter(|file| file.waits()).count();
-    let reply = format!(in alloc; "{{\"searched\":1,\"left\":{left}}}")?;
-    script.say(Line::Search(number, reach), &reply)
+    files: Vec<Known>,
+    script: Script,
 }
 
-// Searches all files within the distance, and every third one within 3 more. The pairs are asked for once
-// half of the files are searched, and at the end.
+impl NearSession {
+    fn new(alloc: Global) -> Result<NearSession, AllocError> {
+        let files = known_files(alloc)?;
+        let script = imported(alloc, &files)?;
+        Ok(NearSession {
+            alloc,
+            files,
+            script,
+        })
+    }
+
+    // Searches a file.
+    fn search(&mut self, number: u32, reach: u8) -> Result<(), AllocError> {
+        if let Some(file) = self.files.get_mut(number as usize) {
+            file.reach = Some(reach);
+        }
+        let left = self.files.iter().filter(|file| file.waits()).count();
+        let reply = format!(in self.alloc; "{{\"searched\":1,\"left\":{left}}}")?;
+        self.script.say(Line::Search(number, reach), &reply)
+    }
+
+    fn ask_for_pairs(&mut self) -> Result<(), AllocError> {
+        let pairs = near_pairs(self.alloc, &self.files)?;
+        self.script.ask_for_pairs(&pairs, PAGE)
+    }
+
+    // Searches all files within the distance, and every third one within 3 more. The pairs are asked for
+    // once half of the files are searched, and at the end.
+    fn search_all(&mut self, order: Order, distance: u8) -> Result<(), AllocError> {
+        for turn in 0..FILES {
+            let number = order.file(turn);
+            let more = if number % 3 == 0 { 3 } else { 0 };
+            self.search(number, distance.saturating_add(more))?;
+            if turn == FILES / 2 {
+                self.ask_for_pairs()?;
+            }
+        }
+        self.ask_for_pairs()
+    }
+}
+
 fn assert_searched(
     rt: &(impl Threads + Abort),
     alloc: Global,
     order: Order,
     distance: u8,
 ) -> Result<(), Fail> {
-    let mut files = known_files(alloc)?;
-    let mut script = imported(alloc, &files)?;
-    for turn in 0..FILES {
-        let number = order.file(turn);
-        let more = if number % 3 == 0 { 3 } else { 0 };
-        let reach = distance.saturating_add(more);
-        search(alloc, &mut script, &mut files, number, reach)?;
-        if turn == FILES / 2 {
-            script.ask_for_pairs(&near_pairs(alloc, &files)?, PAGE)?;
-        }
-    }
-    script.ask_for_pairs(&near_pairs(alloc, &files)?, PAGE)?;
+    let mut session = NearSession::new(alloc)?;
+    session.search_all(order, distance)?;
     let shows = format!(in alloc; "{order:?} within {distance}")?;
-    script.assert_answered(rt, Manner::PLAIN, &shows)
+    session.script.assert_answered(rt, Manner::PLAIN, &shows)
 }
 
 #[test]

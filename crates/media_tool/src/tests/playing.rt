@@ -6,33 +6,48 @@ ghost use Rattle.media_base.specs.Transfer.{Writes};
 
 use crate::run;
 use media_base::{
-    ByteList, BytesSink, BytesSource, CallList, Failed, NoMemory, Sink, SizeList, Source, Status,
-    Steps,
+    ByteList, BytesSink, BytesSource, CallList, Failed, Keeper, NoMemory, Sink, SizeList, Source,
+    Status, Steps,
 };
 use media_keeper::QuietKeeper;
-use std::alloc::Global;
+use std::alloc::{AllocError, Global};
 use std::marker::Brand;
 use std::process::Abort;
 use std::sync::ledger::{Blank, Ledger};
+use std::test::Fail;
 use std::thread::Threads;
 
-/// A sink that takes one byte in each write.
+/// A sink in memory. A narrow one takes one byte in each write.
 #[derive(Drop)]
-struct Narrow {
+pub struct Outlet {
     sink: BytesSink,
+    narrow: bool,
 }
 
-impl Sink for Narrow {
+impl Outlet {
+    /// The write of this number fails, if that isn't 0.
+    pub fn new(alloc: Global, narrow: bool, failing_write: u64) -> Result<Outlet, NoMemory> {
+        let sink = BytesSink::new(alloc, 4_194_304, calls_of(alloc, failing_write)?)?;
+        Ok(Outlet { sink, narrow })
+    }
+
+    /// What it took.
+    pub fn written(&self) -> &[u8] {
+        self.sink.bytes().as_slice()
+    }
+}
+
+impl Sink for Outlet {
     ghost use Rattle.std.specs.Prelude.{Some};
 
-    ghost faults = { λ narrow. narrow.sink.faults };
+    ghost faults = { λ outlet. outlet.sink.faults };
 
-    ghost taken = { λ narrow. Some narrow.sink.taken };
+    ghost taken = { λ outlet. Some outlet.sink.taken };
 
     fn write(&mut self, piece: &[u8]) -> Result<usize, Failed> {
         match piece {
-            [first, ..] => self.sink.write(&[*first]),
-            [] => self.sink.write(piece),
+            [first, ..] if self.narrow => self.sink.write(&[*first]),
+            _ => self.sink.write(piece),
         }
     }
 }
@@ -54,24 +69,47 @@ impl Manner {
     };
 }
 
-fn run_counted<S: Source, W: Sink, L: Ledger>(
+// A session with a ledger of its own.
+fn run_counted<S: Source, W: Sink, K: Keeper, L: Ledger>(
     rt: &impl Threads,
     alloc: Global,
     words: &[String],
     source: &mut S,
     sink: &mut W,
+    keeper: K,
     blank: Blank,
-) -> Status
+) -> (Status, K)
     requires name { blank.name ≡ L.name }
     requires parts { blank.parts ≡ L.parts }
     requires some { 0 < L.parts }
 {
     let mut steps = Steps::<L>::new(rt, blank);
-    let (status, _keeper) = run(alloc, words, source, sink, QuietKeeper::new(), &mut steps);
-    status
+    run(alloc, words, source, sink, keeper, &mut steps)
 }
 
-fn failing(alloc: Global, call: u64) -> Result<CallList, NoMemory> {
+/// A session over a keeper, which comes back.
+pub fn run_over<S: Source, W: Sink, K: Keeper>(
+    rt: &impl Threads,
+    alloc: Global,
+    words: &[String],
+    source: &mut S,
+    sink: &mut W,
+    keeper: K,
+) -> (Status, K) {
+    run_counted::<_, _, _, Brand>(rt, alloc, words, source, sink, keeper, Blank::new(1))
+}
+
+/// The words as the program gets them.
+pub fn owned_words(alloc: Global, words: &[&str]) -> Result<Vec<String>, AllocError> {
+    let mut owned = Vec::new(alloc);
+    for word in words {
+        owned.push(String::from_str(alloc, word)?)?;
+    }
+    Ok(owned)
+}
+
+/// The call of this number, if that isn't 0.
+pub fn calls_of(alloc: Global, call: u64) -> Result<CallList, NoMemory> {
     let mut calls = CallList::new(alloc);
     if call != 0 {
         calls.push(call)?;
@@ -94,56 +132,66 @@ pub fn source_of(
         cuts.push(piece)?;
     }
     assert!(rt; cuts.as_slice().iter().all(|cut| 0 < *cut));
-    Ok(BytesSource::new(bytes, cuts, failing(alloc, failing_read)?))
+    Ok(BytesSource::new(bytes, cuts, calls_of(alloc, failing_read)?))
 }
 
-/// The status of a session over the input, and what was written.
+/// How a session ended.
+#[derive(Drop)]
+pub struct Outcome {
+    pub status: Status,
+    pub written: Vec<u8>,
+}
+
+impl Outcome {
+    /// It ended so, and what was written are these replies, and nothing more.
+    pub fn assert(
+        &self,
+        rt: &impl Abort,
+        alloc: Global,
+        status: Status,
+        replies: &[&str],
+    ) -> Result<(), Fail> {
+        assert_eq!(rt; self.status, status);
+        assert_replies(rt, alloc, &self.written, replies)
+    }
+}
+
+/// Plays the input.
 pub fn played(
     rt: &(impl Threads + Abort),
     alloc: Global,
     words: &[&str],
     input: &str,
     manner: Manner,
-) -> Result<(Status, Vec<u8>), NoMemory> {
+) -> Result<Outcome, NoMemory> {
     let piece = if manner.narrow { 1 } else { 65_536 };
-    let source = source_of(rt, alloc, input, piece, manner.failing_read)?;
-    played_from(rt, alloc, words, source, manner)
+    let mut source = source_of(rt, alloc, input, piece, manner.failing_read)?;
+    played_from(rt, alloc, words, &mut source, manner)
 }
 
+/// Plays what the source gives.
 pub fn played_from(
     rt: &impl Threads,
     alloc: Global,
     words: &[&str],
-    mut source: BytesSource,
+    source: &mut BytesSource,
     manner: Manner,
-) -> Result<(Status, Vec<u8>), NoMemory> {
-    let mut owned = Vec::new(alloc);
-    for word in words {
-        owned.push(String::from_str(alloc, word)?)?;
-    }
-    let mut sink = BytesSink::new(alloc, 4_194_304, failing(alloc, manner.failing_write)?)?;
-    if !manner.narrow {
-        let status = run_counted::<_, _, Brand>(
-            rt,
-            alloc,
-            &owned,
-            &mut source,
-            &mut sink,
-            Blank::new(1),
-        );
-        return Ok((status, Vec::from_slice(alloc, sink.bytes().as_slice())?));
-    }
-    let mut narrow = Narrow { sink };
-    let status = run_counted::<_, _, Brand>(
-        rt,
-        alloc,
-        &owned,
-        &mut source,
-        &mut narrow,
-        Blank::new(1),
-    );
-    Ok((
-        status,
-        Vec::from_slice(alloc, narrow.sink.bytes().as_slice())?,
-    ))
+) -> Result<Outcome, NoMemory> {
+    let words = owned_words(alloc, words)?;
+    let mut outlet = Outlet::new(alloc, manner.narrow, manner.failing_write)?;
+    let (status, _keeper) = run_over(rt, alloc, &words, source, &mut outlet, QuietKeeper::new());
+    let written = Vec::from_slice(alloc, outlet.written())?;
+    Ok(Outcome { status, written })
+}
+
+/// What was written are these replies, and nothing more.
+pub fn assert_replies(
+    rt: &impl Abort,
+    alloc: Global,
+    written: &[u8],
+    replies: &[&str],
+) -> Result<(), Fail> {
+    let expected = replies.concat(alloc)?;
+    assert_eq!(rt; str::from_utf8(written)?, expected.as_str());
+    Ok(())
 }

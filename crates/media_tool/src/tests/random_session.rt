@@ -7,9 +7,11 @@ use crate::tests::lines::{Code, Line};
 use crate::tests::plain_library::PlainLibrary;
 use crate::tests::scripts::Script;
 use media_base::ChangeList;
+use media_keeper::MemoryKeeper;
 use std::alloc::{AllocError, Global};
 use std::process::Abort;
 use std::test::Fail;
+use std::thread::Threads;
 
 const LINES: u32 = 3_000;
 
@@ -199,6 +201,44 @@ impl RandomSession {
         let (line, reply) = FAULTY[self.chance.below(6)];
         self.script.say(Line::Text(line), reply)
     }
+
+    fn ask_lines(&mut self, rt: &impl Abort) -> Result<(), AllocError> {
+        for turn in 0..LINES {
+            self.ask(rt, turn)?;
+        }
+        Ok(())
+    }
+
+    // Asks for all that the library tells. There are many pairs.
+    fn ask_all(&mut self, rt: &impl Abort) -> Result<(), AllocError> {
+        let pairs = self.library.potential_pairs(rt)?;
+        assert!(rt; 20 < pairs.len(), "{pairs:?}");
+        self.library.ask_all(rt, &mut self.script)
+    }
+
+    // Plays the session over an empty keeper, which then keeps what came of it.
+    fn assert_answered(
+        &self,
+        rt: &(impl Threads + Abort),
+        alloc: Global,
+    ) -> Result<MemoryKeeper, Fail> {
+        let empty = keeper_of(alloc, ChangeList::new(alloc), 0, u64::from(LINES))?;
+        self.script
+            .assert_answered_over(rt, empty, "random commands")
+    }
+
+    // What was kept is opened, and asked for all that the library tells.
+    fn assert_kept(
+        &self,
+        rt: &(impl Threads + Abort),
+        alloc: Global,
+        kept: MemoryKeeper,
+    ) -> Result<(), Fail> {
+        let mut questions = Script::with_files(alloc, 0)?;
+        self.library.ask_all(rt, &mut questions)?;
+        let _keeper = questions.assert_answered_over(rt, kept, "what was kept of them")?;
+        Ok(())
+    }
 }
 
 // What was kept of the session is then opened, and asked the same questions as the session at its end.
@@ -206,18 +246,8 @@ impl RandomSession {
 fn a_random_session_is_answered_as_plain_lists_say(rt: HostRuntime) -> Result<(), Fail> {
     let alloc = rt.alloc();
     let mut session = RandomSession::new(alloc, 3_000)?;
-    for turn in 0..LINES {
-        session.ask(&rt, turn)?;
-    }
-    let pairs = session.library.potential_pairs(&rt)?;
-    assert!(rt; 20 < pairs.len(), "{pairs:?}");
-    session.library.ask_all(&rt, &mut session.script)?;
-    let mut questions = Script::with_files(alloc, 0)?;
-    session.library.ask_all(&rt, &mut questions)?;
-    let empty = keeper_of(alloc, ChangeList::new(alloc), 0, u64::from(LINES))?;
-    let kept = session
-        .script
-        .assert_answered_over(&rt, empty, "random commands")?;
-    questions.assert_answered_over(&rt, kept, "what was kept of them")?;
-    Ok(())
+    session.ask_lines(&rt)?;
+    session.ask_all(&rt)?;
+    let kept = session.assert_answered(&rt, alloc)?;
+    session.assert_kept(&rt, alloc, kept)
 }

@@ -7,7 +7,10 @@ use crate::tests::lines::Line::{
 };
 use crate::tests::playing::Manner;
 use crate::tests::scripts::Script;
+use std::alloc::Global;
+use std::process::Abort;
 use std::test::Fail;
+use std::thread::Threads;
 
 #[derive(Clone, Copy)]
 struct Case {
@@ -496,27 +499,33 @@ const DELETIONS: [Case; 8] = [
     },
 ];
 
-#[test]
-fn sessions_are_answered(rt: HostRuntime) -> Result<(), Fail> {
-    for case in DUPLICATES
-        .iter()
-        .chain(&UNDOINGS)
-        .chain(&OTHERS)
-        .chain(&SEARCHES)
-        .chain(&PAIRS)
-        .chain(&DELETIONS)
-    {
-        let mut script = Script::with_files(rt.alloc(), case.files)?;
-        for (line, reply) in case.rows {
-            script.say(*line, reply)?;
-        }
-        for narrow in [false, true] {
-            let manner = Manner {
-                narrow,
-                ..Manner::PLAIN
-            };
-            script.assert_answered(&rt, manner, case.shows)?;
-        }
+fn assert_case(rt: &(impl Threads + Abort), alloc: Global, case: &Case) -> Result<(), Fail> {
+    let mut script = Script::with_files(alloc, case.files)?;
+    script.say_all(case.rows)?;
+    for narrow in [false, true] {
+        let manner = Manner {
+            narrow,
+            ..Manner::PLAIN
+        };
+        script.assert_answered(rt, manner, case.shows)?;
     }
     Ok(())
+}
+
+fn assert_all(rt: &(impl Threads + Abort), alloc: Global, cases: &[Case]) -> Result<(), Fail> {
+    for case in cases {
+        assert_case(rt, alloc, case)?;
+    }
+    Ok(())
+}
+
+#[test]
+fn sessions_are_answered(rt: HostRuntime) -> Result<(), Fail> {
+    let alloc = rt.alloc();
+    assert_all(&rt, alloc, &DUPLICATES)?;
+    assert_all(&rt, alloc, &UNDOINGS)?;
+    assert_all(&rt, alloc, &OTHERS)?;
+    assert_all(&rt, alloc, &SEARCHES)?;
+    assert_all(&rt, alloc, &PAIRS)?;
+    assert_all(&rt, alloc, &DELETIONS)
 }

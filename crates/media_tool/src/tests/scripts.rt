@@ -41,6 +41,14 @@ impl Script {
         writeln!(self.replies, "{reply}")
     }
 
+    /// The next lines, each with its reply.
+    pub fn say_all(&mut self, rows: &[(Line, &str)]) -> Result<(), AllocError> {
+        for (line, reply) in rows {
+            self.say(*line, reply)?;
+        }
+        Ok(())
+    }
+
     /// The next line is a decision, which gets this number.
     pub fn decide(&mut self, line: Line, number: usize) -> Result<(), AllocError> {
         line.write_to(&mut self.input)?;
@@ -77,9 +85,8 @@ impl Script {
         manner: Manner,
         shows: &str,
     ) -> Result<(), Fail> {
-        let (status, written) = played(rt, self.alloc, &["play", "-"], &self.input, manner)?;
-        assert_eq!(rt; status, Status::Done, "{shows}");
-        self.assert_written(rt, &written, shows)
+        let played = played(rt, self.alloc, &["play", "-"], &self.input, manner)?;
+        self.assert_written(rt, played.status, &played.written, shows)
     }
 
     /// The same over a keeper, which comes back.
@@ -90,19 +97,30 @@ impl Script {
         shows: &str,
     ) -> Result<MemoryKeeper, Fail> {
         let ended = session_over(rt, self.alloc, &self.input, keeper, 0)?;
-        assert_eq!(rt; ended.status, Status::Done, "{shows}");
-        self.assert_written(rt, &ended.written, shows)?;
+        self.assert_written(rt, ended.status, &ended.written, shows)?;
         Ok(ended.keeper)
     }
 
-    fn assert_written(&self, rt: &impl Abort, written: &[u8], shows: &str) -> Result<(), Fail> {
+    // It ended well, and all replies were written.
+    fn assert_written(
+        &self,
+        rt: &impl Abort,
+        status: Status,
+        written: &[u8],
+        shows: &str,
+    ) -> Result<(), Fail> {
+        assert_eq!(rt; status, Status::Done, "{shows}");
         let found = str::from_utf8(written)?;
+        self.assert_lines(rt, found, shows);
+        assert!(rt; found == self.replies.as_str(), "{shows}: other replies");
+        Ok(())
+    }
+
+    fn assert_lines(&self, rt: &impl Abort, found: &str, shows: &str) {
         let replies = found.lines().zip(self.replies.lines());
         for (line, (reply, want)) in self.input.lines().zip(replies) {
             assert_eq!(rt; reply, want, "{shows}: to {line}");
         }
-        assert!(rt; found == self.replies.as_str(), "{shows}: other replies");
-        Ok(())
     }
 }
 

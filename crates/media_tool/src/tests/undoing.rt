@@ -3,7 +3,7 @@
 use crate::tests::chance::Chance;
 use crate::tests::decisions::{Decision, chosen};
 use crate::tests::lines::{Line, input_of};
-use crate::tests::playing::{Manner, played};
+use crate::tests::playing::{Manner, Outcome, played};
 use crate::tests::scripts::Script;
 use media_base::Status;
 use std::alloc::{AllocError, Global};
@@ -24,6 +24,8 @@ struct Recorded {
 struct History {
     alloc: Global,
     recorded: Vec<Recorded>,
+    /// How many undoings were accepted.
+    accepted: u32,
     script: Script,
 }
 
@@ -32,6 +34,7 @@ impl History {
         Ok(History {
             alloc,
             recorded: Vec::new(alloc),
+            accepted: 0,
             script: Script::with_files(alloc, FILES)?,
         })
     }
@@ -88,9 +91,14 @@ impl History {
     fn ask_all(&mut self, rt: &(impl Threads + Abort)) -> Result<(), Fail> {
         let lines = self.standing_lines()?;
         let input = input_of(self.alloc, &lines)?;
-        let (status, written) = played(rt, self.alloc, &["play", "-"], &input, Manner::PLAIN)?;
-        assert_eq!(rt; status, Status::Done);
-        let replies = str::from_utf8(&written)?;
+        let played = played(rt, self.alloc, &["play", "-"], &input, Manner::PLAIN)?;
+        self.ask_as(rt, &lines, &played)
+    }
+
+    // Asks for the relations that these lines ask for, which have the replies that were played.
+    fn ask_as(&mut self, rt: &impl Abort, lines: &[Line], played: &Outcome) -> Result<(), Fail> {
+        assert_eq!(rt; played.status, Status::Done);
+        let replies = str::from_utf8(&played.written)?;
         assert_eq!(rt; replies.lines().count(), lines.len());
         for (line, reply) in lines.iter().zip(replies.lines()) {
             if let Line::Relations(_) = line {
@@ -99,31 +107,40 @@ impl History {
         }
         Ok(())
     }
+
+    // The next line: two of three undo, and some are refused. All relations are compared after every second
+    // undoing that was accepted.
+    fn go_on(
+        &mut self,
+        rt: &(impl Threads + Abort),
+        all: &[Decision],
+        chance: &mut Chance,
+    ) -> Result<(), Fail> {
+        if chance.below(3) == 0 {
+            self.decide(chosen(rt, all, chance))?;
+            return Ok(());
+        }
+        let number = chance.below(self.recorded.len().saturating_add(1));
+        if self.undo(u32::try_from(number)?)? {
+            self.accepted = self.accepted.saturating_add(1);
+            if self.accepted % 2 == 0 {
+                self.ask_all(rt)?;
+            }
+        }
+        Ok(())
+    }
 }
 
-// Two of three lines undo, and some are refused. All relations are compared after every second undoing
-// that was accepted.
 #[test]
 fn an_undone_decision_was_never_there(rt: HostRuntime) -> Result<(), Fail> {
     let alloc = rt.alloc();
     let all = Decision::all(alloc, FILES)?;
     let mut chance = Chance::new(2_000);
     let mut history = History::new(alloc)?;
-    let mut accepted = 0_u32;
     for _ in 0..2_000 {
-        if chance.below(3) == 0 {
-            history.decide(chosen(&rt, &all, &mut chance))?;
-            continue;
-        }
-        let number = chance.below(history.recorded.len().saturating_add(1));
-        if history.undo(u32::try_from(number)?)? {
-            accepted = accepted.saturating_add(1);
-            if accepted % 2 == 0 {
-                history.ask_all(&rt)?;
-            }
-        }
+        history.go_on(&rt, &all, &mut chance)?;
     }
-    assert!(rt; 400 < accepted, "{accepted} undoings");
+    assert!(rt; 400 < history.accepted, "{} undoings", history.accepted);
     history
         .script
         .assert_answered(&rt, Manner::PLAIN, "decisions and undoings")

@@ -1,0 +1,2 @@
+mod FirstItem
+mod Putting

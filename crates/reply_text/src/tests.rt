@@ -1,0 +1,242 @@
+use crate::{reply_len, write_reply, write_reply_line};
+use media_base::{
+    BytesSink, CallList, DecisionNo, FieldName, FileList, FileNo, FileRelations, ImportStatus,
+    Imported, PairList, QueueLengths, Refusal, Reply, SearchCounts, SearchDistance,
+};
+use std::alloc::Global;
+use std::process::Abort;
+use std::test::Fail;
+
+fn sink_failing_at(alloc: Global, call: u64) -> Result<BytesSink, Fail> {
+    let fails = CallList::from_rows([call].to_vec(alloc)?);
+    Ok(BytesSink::new(alloc, 65_536, fails)?)
+}
+
+// A reply of up to 4,096 bytes goes out in one write, so a failure of the second doesn't show.
+fn assert_text(rt: &impl Abort, alloc: Global, reply: &Reply, want: &str) -> Result<(), Fail> {
+    assert_eq!(rt; reply_len(reply), want.len() as u64, "{want}");
+    assert_written(rt, alloc, reply, want)?;
+    assert_line(rt, alloc, reply, want)
+}
+
+fn assert_written(rt: &impl Abort, alloc: Global, reply: &Reply, want: &str) -> Result<(), Fail> {
+    let mut sink = sink_failing_at(alloc, 2)?;
+    write_reply(reply, &mut sink)?;
+    assert_eq!(rt; sink.bytes().as_slice(), want.as_bytes());
+    Ok(())
+}
+
+fn assert_line(rt: &impl Abort, alloc: Global, reply: &Reply, want: &str) -> Result<(), Fail> {
+    let mut sink = sink_failing_at(alloc, 2)?;
+    write_reply_line(reply, &mut sink)?;
+    assert_eq!(rt;
+        sink.bytes().as_slice().strip_suffix(b"\n"),
+        Some(want.as_bytes())
+    );
+    Ok(())
+}
+
+fn assert_texts(rt: &impl Abort, alloc: Global, cases: &[(Reply, &str)]) -> Result<(), Fail> {
+    for (reply, want) in cases {
+        assert_text(rt, alloc, reply, want)?;
+    }
+    Ok(())
+}
+
+#[test]
+fn changes_are_answered(rt: HostRuntime) -> Result<(), Fail> {
+    let imported = |file, status| {
+        Reply::Imported(Imported {
+            file: FileNo(file),
+            status,
+        })
+    };
+    let cases = [
+        (imported(0, ImportStatus::New), "{\"file\":0,\"status\":1}"),
+        (
+            imported(999_999, ImportStatus::Known),
+            "{\"file\":999999,\"status\":2}",
+        ),
+        (
+            imported(0, ImportStatus::Deleted),
+            "{\"file\":0,\"status\":3}",
+        ),
+        (Reply::Changed(true), "{\"changed\":true}"),
+        (Reply::Changed(false), "{\"changed\":false}"),
+        (Reply::Decided(DecisionNo(10)), "{\"decision\":10}"),
+        (Reply::Undone(DecisionNo(0)), "{\"undone\":0}"),
+        (
+            Reply::Undone(DecisionNo(4_294_967_295)),
+            "{\"undone\":4294967295}",
+        ),
+    ];
+    assert_texts(&rt, rt.alloc(), &cases)
+}
+
+#[test]
+fn searches_are_answered(rt: HostRuntime) -> Result<(), Fail> {
+    let counts = |searched, left| Reply::Searched(SearchCounts { searched, left });
+    let queues = |search, display| Reply::Queues(QueueLengths { search, display });
+    let cases = [
+        (Reply::Distance(SearchDistance::first()), "{\"distance\":8}"),
+        (counts(1, 0), "{\"searched\":1,\"left\":0}"),
+        (
+            counts(1_024, u64::MAX),
+            "{\"searched\":1024,\"left\":18446744073709551615}",
+        ),
+        (queues(0, 0), "{\"search\":0,\"display\":0}"),
+        (queues(999_999, 12), "{\"search\":999999,\"display\":12}"),
+        (Reply::Rebalanced, "{\"done\":true}"),
+    ];
+    assert_texts(&rt, rt.alloc(), &cases)
+}
+
+fn assert_pairs(
+    rt: &impl Abort,
+    alloc: Global,
+    rows: &[(FileNo, FileNo, u8)],
+    want: &str,
+) -> Result<(), Fail> {
+    let reply = Reply::Pairs(PairList::from_rows(rows.to_vec(alloc)?));
+    assert_text(rt, alloc, &reply, want)
+}
+
+#[test]
+fn pairs_are_answered(rt: HostRuntime) -> Result<(), Fail> {
+    let first = (FileNo(0), FileNo(1), 8);
+    let second = (FileNo(1), FileNo(2), 1);
+    let last = (FileNo(999_998), FileNo(999_999), 16);
+    let two = "{\"pairs\":[[0,1,8],[1,2,1]]}";
+    assert_pairs(&rt, rt.alloc(), &[], "{\"pairs\":[]}")?;
+    assert_pairs(&rt, rt.alloc(), &[first, second], two)?;
+    assert_pairs(&rt, rt.alloc(), &[last], "{\"pairs\":[[999998,999999,16]]}")
+}
+
+#[test]
+fn counts_of_pairs_are_answered(rt: HostRuntime) -> Result<(), Fail> {
+    let cases = [
+        (Reply::PairCount(2), "{\"count\":2}"),
+        (
+            Reply::PairCount(u64::MAX),
+            "{\"count\":18446744073709551615}",
+        ),
+    ];
+    assert_texts(&rt, rt.alloc(), &cases)
+}
+
+fn files(alloc: Global, numbers: &[FileNo]) -> Result<FileList, Fail> {
+    Ok(FileList::from_rows(numbers.to_vec(alloc)?))
+}
+
+fn relations_with(alloc: Global, members: FileList, alternates: FileList) -> Reply {
+    Reply::Relations(FileRelations {
+        king: FileNo(0),
+        members,
+        alternates,
+        not_related: FileList::new(alloc),
+    })
+}
+
+#[test]
+fn relations_are_answered(rt: HostRuntime) -> Result<(), Fail> {
+    let members = files(rt.alloc(), &[FileNo(0), FileNo(10), FileNo(200)])?;
+    let alternates = files(rt.alloc(), &[FileNo(7)])?;
+    let reply = relations_with(rt.alloc(), members, alternates);
+    assert_text(
+        &rt,
+        rt.alloc(),
+        &reply,
+        "{\"king\":0,\"members\":[0,10,200],\"alternates\":[7],\"not_related\":[]}",
+    )
+}
+
+fn assert_refusals(rt: &impl Abort, alloc: Global, cases: &[(Refusal, &str)]) -> Result<(), Fail> {
+    for (refusal, want) in cases {
+        assert_text(rt, alloc, &Reply::Refused(*refusal), want)?;
+    }
+    Ok(())
+}
+
+#[test]
+fn refusals_are_written(rt: HostRuntime) -> Result<(), Fail> {
+    let cases = [
+        (Refusal::LineTooLong, "{\"error\":\"line_too_long\"}"),
+        (Refusal::NotJson, "{\"error\":\"not_json\"}"),
+        (
+            Refusal::NotARequest(FieldName::Do),
+            "{\"error\":\"not_a_request\",\"field\":\"do\"}",
+        ),
+        (
+            Refusal::NotARequest(FieldName::Sha256),
+            "{\"error\":\"not_a_request\",\"field\":\"sha256\"}",
+        ),
+        (
+            Refusal::NotARequest(FieldName::Decision),
+            "{\"error\":\"not_a_request\",\"field\":\"decision\"}",
+        ),
+        (
+            Refusal::NotARequest(FieldName::N),
+            "{\"error\":\"not_a_request\",\"field\":\"n\"}",
+        ),
+        (
+            Refusal::NotARequest(FieldName::AfterK),
+            "{\"error\":\"not_a_request\",\"field\":\"after_k\"}",
+        ),
+        (Refusal::BadHash, "{\"error\":\"bad_hash\"}"),
+        (Refusal::TooManyHashes, "{\"error\":\"too_many_hashes\"}"),
+        (Refusal::BadDistance, "{\"error\":\"bad_distance\"}"),
+        (Refusal::BadNumber, "{\"error\":\"bad_number\"}"),
+        (Refusal::UnknownFile, "{\"error\":\"unknown_file\"}"),
+        (Refusal::SameFile, "{\"error\":\"same_file\"}"),
+        (Refusal::UnknownDecision, "{\"error\":\"unknown_decision\"}"),
+        (Refusal::AlreadyUndone, "{\"error\":\"already_undone\"}"),
+        (Refusal::FullFiles, "{\"error\":\"full_files\"}"),
+        (Refusal::FullNear, "{\"error\":\"full_near\"}"),
+        (Refusal::FullDecisions, "{\"error\":\"full_decisions\"}"),
+        (Refusal::NoMemory, "{\"error\":\"no_memory\"}"),
+        (Refusal::JournalFull, "{\"error\":\"journal_full\"}"),
+        (Refusal::NotKept, "{\"error\":\"not_kept\"}"),
+    ];
+    assert_refusals(&rt, rt.alloc(), &cases)
+}
+
+#[test]
+fn a_sink_that_fails_at_once_takes_nothing(rt: HostRuntime) -> Result<(), Fail> {
+    let mut sink = sink_failing_at(rt.alloc(), 1)?;
+    assert!(rt; write_reply(&Reply::Decided(DecisionNo(1)), &mut sink).is_err());
+    assert!(rt; sink.bytes().is_empty());
+    Ok(())
+}
+
+fn numbered_files(alloc: Global, count: u32) -> Result<FileList, Fail> {
+    let mut files = FileList::new(alloc);
+    for number in 0..count {
+        files.push(FileNo(number))?;
+    }
+    Ok(files)
+}
+
+// A sink that fails at its second call holds a front of the text.
+fn assert_front(rt: &impl Abort, alloc: Global, reply: &Reply, text: &[u8]) -> Result<(), Fail> {
+    let mut sink = sink_failing_at(alloc, 2)?;
+    assert!(rt; write_reply(reply, &mut sink).is_err());
+    assert!(rt; !sink.bytes().is_empty() && sink.bytes().len() <= 4_096);
+    assert!(rt; text.starts_with(sink.bytes().as_slice()));
+    Ok(())
+}
+
+fn assert_long(rt: &impl Abort, alloc: Global, reply: &Reply) -> Result<(), Fail> {
+    let mut sink = sink_failing_at(alloc, 1_000)?;
+    write_reply(reply, &mut sink)?;
+    assert_eq!(rt; sink.bytes().len(), 8_945);
+    assert_front(rt, alloc, reply, sink.bytes().as_slice())
+}
+
+// 10, 90, 900 and 1,000 numbers of one to four digits, 1,999 commas, and 56 bytes around them.
+#[test]
+fn a_long_reply_goes_out_in_pieces(rt: HostRuntime) -> Result<(), Fail> {
+    let members = numbered_files(rt.alloc(), 2_000)?;
+    let reply = relations_with(rt.alloc(), members, FileList::new(rt.alloc()));
+    assert_eq!(rt; reply_len(&reply), 10 + 180 + 2_700 + 4_000 + 1_999 + 56);
+    assert_long(&rt, rt.alloc(), &reply)
+}
