@@ -41,22 +41,38 @@ fn plan_new(rt: &impl Abort, files: &mut Files, file: &NewFile) -> Result<Import
     Ok(plan)
 }
 
-fn many_files(rt: &impl Abort, alloc: Global) -> Result<Files, Fail> {
-    let mut files = Files::new(alloc);
-    for number in 0..2_000 {
-        let file = file_of(rt, alloc, number, &[7, u64::from(number)])?;
-        let plan = plan_new(rt, &mut files, &file)?;
-        assert_eq!(rt; files.commit_import(plan), FileNo(number));
-    }
-    Ok(files)
+// Imports a file, which gets the number that stands for its SHA-256.
+fn import(
+    rt: &impl Abort,
+    alloc: Global,
+    files: &mut Files,
+    number: u32,
+    words: &[u64],
+) -> Result<(), Fail> {
+    let file = file_of(rt, alloc, number, words)?;
+    let plan = plan_new(rt, files, &file)?;
+    assert_eq!(rt; files.commit_import(plan), FileNo(number));
+    Ok(())
 }
 
-#[test]
-fn many_files_are_found_again(rt: HostRuntime) -> Result<(), Fail> {
-    let files = many_files(&rt, rt.alloc())?;
+fn import_many(rt: &impl Abort, alloc: Global, files: &mut Files) -> Result<(), Fail> {
+    for number in 0..2_000 {
+        import(rt, alloc, files, number, &[7, u64::from(number)])?;
+    }
+    Ok(())
+}
+
+fn find_many(rt: &impl Abort, files: &Files) {
     for number in 0..2_000 {
         assert_eq!(rt; files.find(&sha_of(number)), Some(FileNo(number)));
     }
     assert_eq!(rt; files.find(&sha_of(2_000)), None);
+}
+
+#[test]
+fn many_files_are_found_again(rt: HostRuntime) -> Result<(), Fail> {
+    let mut files = Files::new(rt.alloc());
+    import_many(&rt, rt.alloc(), &mut files)?;
+    find_many(&rt, &files);
     Ok(())
 }

@@ -122,29 +122,237 @@ fn assert_as_scan<L: Ledger>(
     Ok(())
 }
 
+// Searches around 0.
 fn assert_hits<L: Ledger>(
     rt: &impl Abort,
     tree: &Tree,
-    within: u32,
-    want: &[(HashNo, u32)],
+    searches: &[(u32, &[(HashNo, u32)])],
     steps: &mut Steps<L>,
 ) -> Result<(), NoMemory> {
-    let hits = tree.search(Hash64(0), within, steps)?;
-    assert_eq!(rt; hits.as_slice(), want);
+    for (within, want) in searches {
+        let hits = tree.search(Hash64(0), *within, steps)?;
+        assert_eq!(rt; hits.as_slice(), *want, "within {within}");
+    }
     Ok(())
 }
 
-fn assert_root(rt: &impl Abort, tree: &Tree) {
-    assert!(rt; tree.len() == 3);
-    let root = tree.node(HashNo(0));
-    assert_eq!(rt; root.word, Hash64(0));
-    assert_eq!(rt; root.radius, Some(8));
-    assert_eq!(rt; root.inner, Some(HashNo(1)));
-    assert_eq!(rt; root.outer, Some(HashNo(2)));
-    assert_eq!(rt; (root.below, root.built), (2, 0));
+const LEAF: NodeView = NodeView {
+    word: Hash64(0),
+    radius: None,
+    inner: None,
+    outer: None,
+    below: 0,
+    built: 0,
+};
+
+// A tree of these words in which branches are built anew, one after another; what it then keeps of nodes,
+// and what searches around 0 find.
+#[derive(Drop)]
+struct Case<'a> {
+    words: &'a [u64],
+    builds: &'a [u32],
+    nodes: &'a [(u32, NodeView)],
+    searches: &'a [(u32, &'a [(HashNo, u32)])],
 }
 
-fn three_words_in<L: Ledger>(
+const CASES: [Case<'static>; 5] = [
+    Case {
+        words: &[0, 0xff, 0x1ff],
+        builds: &[],
+        nodes: &[(
+            0,
+            NodeView {
+                word: Hash64(0),
+                radius: Some(8),
+                inner: Some(HashNo(1)),
+                outer: Some(HashNo(2)),
+                below: 2,
+                built: 0,
+            },
+        )],
+        searches: &[
+            (8, &[(HashNo(0), 0), (HashNo(1), 8)]),
+            (9, &[(HashNo(0), 0), (HashNo(1), 8), (HashNo(2), 9)]),
+        ],
+    },
+    Case {
+        words: &[0, 0xff, 0x1ff],
+        builds: &[0],
+        nodes: &[
+            (
+                0,
+                NodeView {
+                    word: Hash64(0),
+                    radius: Some(8),
+                    inner: Some(HashNo(1)),
+                    outer: Some(HashNo(2)),
+                    below: 2,
+                    built: 2,
+                },
+            ),
+            (
+                1,
+                NodeView {
+                    word: Hash64(0xff),
+                    ..LEAF
+                },
+            ),
+            (
+                2,
+                NodeView {
+                    word: Hash64(0x1ff),
+                    ..LEAF
+                },
+            ),
+        ],
+        searches: &[],
+    },
+    // The others differ from the first word in 16, 1, 2 and 2 bits.
+    Case {
+        words: &[0, 0xffff, 0x1, 0x3, 0x6],
+        builds: &[0],
+        nodes: &[
+            (
+                0,
+                NodeView {
+                    word: Hash64(0),
+                    radius: Some(2),
+                    inner: Some(HashNo(2)),
+                    outer: Some(HashNo(1)),
+                    below: 4,
+                    built: 4,
+                },
+            ),
+            (
+                1,
+                NodeView {
+                    word: Hash64(0xffff),
+                    ..LEAF
+                },
+            ),
+            (
+                2,
+                NodeView {
+                    word: Hash64(0x1),
+                    radius: Some(1),
+                    inner: Some(HashNo(3)),
+                    outer: Some(HashNo(4)),
+                    below: 2,
+                    built: 2,
+                },
+            ),
+            (
+                3,
+                NodeView {
+                    word: Hash64(0x3),
+                    ..LEAF
+                },
+            ),
+        ],
+        searches: &[(
+            2,
+            &[
+                (HashNo(0), 0),
+                (HashNo(2), 1),
+                (HashNo(3), 2),
+                (HashNo(4), 2),
+            ],
+        )],
+    },
+    // Words of one bit each lie at the same distance from 0, and at the same from one another.
+    Case {
+        words: &[0, 0x1, 0x2, 0x4],
+        builds: &[1],
+        nodes: &[(
+            1,
+            NodeView {
+                word: Hash64(0x1),
+                radius: Some(2),
+                inner: Some(HashNo(2)),
+                outer: None,
+                below: 2,
+                built: 2,
+            },
+        )],
+        searches: &[],
+    },
+    Case {
+        words: &[0, 0x1, 0x2, 0x4],
+        builds: &[1, 0],
+        nodes: &[
+            (
+                0,
+                NodeView {
+                    word: Hash64(0),
+                    radius: Some(1),
+                    inner: Some(HashNo(1)),
+                    outer: None,
+                    below: 3,
+                    built: 3,
+                },
+            ),
+            (
+                2,
+                NodeView {
+                    word: Hash64(0x2),
+                    radius: Some(2),
+                    inner: Some(HashNo(3)),
+                    outer: None,
+                    below: 1,
+                    built: 1,
+                },
+            ),
+        ],
+        searches: &[],
+    },
+];
+
+fn insert_all<L: Ledger>(
+    rt: &impl Abort,
+    tree: &mut Tree,
+    words: &[u64],
+    steps: &mut Steps<L>,
+) -> Result<(), NoMemory> {
+    for word in words {
+        insert(rt, tree, Hash64(*word), steps)?;
+    }
+    Ok(())
+}
+
+fn build_all<L: Ledger>(
+    rt: &impl Abort,
+    tree: &mut Tree,
+    tops: &[u32],
+    steps: &mut Steps<L>,
+) -> Result<(), NoMemory> {
+    for top in tops {
+        build(rt, tree, HashNo(*top), steps)?;
+    }
+    Ok(())
+}
+
+fn assert_nodes(rt: &impl Abort, tree: &Tree, nodes: &[(u32, NodeView)]) {
+    for (at, node) in nodes {
+        assert!(rt; *at < tree.len());
+        assert_eq!(rt; tree.node(HashNo(*at)), *node, "at {at}");
+    }
+}
+
+fn assert_case<L: Ledger>(
+    rt: &impl Abort,
+    alloc: Global,
+    case: &Case,
+    steps: &mut Steps<L>,
+) -> Result<(), NoMemory> {
+    let mut tree = Tree::new(alloc);
+    insert_all(rt, &mut tree, case.words, steps)?;
+    build_all(rt, &mut tree, case.builds, steps)?;
+    assert_eq!(rt; tree.len() as usize, case.words.len());
+    assert_nodes(rt, &tree, case.nodes);
+    assert_hits(rt, &tree, case.searches, steps)
+}
+
+fn assert_cases<L: Ledger>(
     rt: &(impl Abort + Threads),
     alloc: Global,
     blank: Blank,
@@ -154,20 +362,15 @@ fn three_words_in<L: Ledger>(
     requires some { 0 < L.parts }
 {
     let mut steps = Steps::<L>::new(rt, blank);
-    let mut tree = Tree::new(alloc);
-    for word in [0, 0xff, 0x1ff] {
-        insert(rt, &mut tree, Hash64(word), &mut steps)?;
+    for case in &CASES {
+        assert_case(rt, alloc, case, &mut steps)?;
     }
-    assert_root(rt, &tree);
-    let near = [(HashNo(0), 0), (HashNo(1), 8)];
-    assert_hits(rt, &tree, 8, &near, &mut steps)?;
-    let all = [(HashNo(0), 0), (HashNo(1), 8), (HashNo(2), 9)];
-    assert_hits(rt, &tree, 9, &all, &mut steps)
+    Ok(())
 }
 
 #[test]
-fn three_words(rt: HostRuntime) -> Result<(), Fail> {
-    three_words_in::<Brand>(&rt, rt.alloc(), Blank::new(1))?;
+fn words_are_placed_and_built(rt: HostRuntime) -> Result<(), Fail> {
+    assert_cases::<Brand>(&rt, rt.alloc(), Blank::new(1))?;
     distance_laws();
     root_law();
     placing_laws();
@@ -176,156 +379,28 @@ fn three_words(rt: HostRuntime) -> Result<(), Fail> {
 
 fn four_words_in<L: Ledger>(
     rt: &(impl Abort + Threads),
-    alloc: Global,
     blank: Blank,
+    tree: &mut Tree,
 ) -> Result<(), NoMemory>
     requires name { blank.name ≡ L.name }
     requires parts { blank.parts ≡ L.parts }
     requires some { 0 < L.parts }
 {
     let mut steps = Steps::<L>::new(rt, blank);
-    let mut tree = Tree::new(alloc);
-    insert_four(rt, &mut tree, &mut steps)?;
+    insert_four(rt, tree, &mut steps)?;
     let all = [
         (HashNo(0), 0),
         (HashNo(1), 8),
         (HashNo(2), 9),
         (HashNo(3), 64),
     ];
-    assert_hits(rt, &tree, 64, &all, &mut steps)
+    assert_hits(rt, tree, &[(64, &all)], &mut steps)
 }
 
 #[test]
 fn four_words_of_a_file(rt: HostRuntime) -> Result<(), Fail> {
-    four_words_in::<Brand>(&rt, rt.alloc(), Blank::new(1))?;
-    Ok(())
-}
-
-fn assert_leaf(rt: &impl Abort, tree: &Tree, at: u32, word: Hash64) {
-    assert!(rt; at < tree.len());
-    let leaf = NodeView {
-        word,
-        radius: None,
-        inner: None,
-        outer: None,
-        below: 0,
-        built: 0,
-    };
-    assert_eq!(rt; tree.node(HashNo(at)), leaf);
-}
-
-fn built_root_in<L: Ledger>(
-    rt: &(impl Abort + Threads),
-    alloc: Global,
-    blank: Blank,
-) -> Result<(), NoMemory>
-    requires name { blank.name ≡ L.name }
-    requires parts { blank.parts ≡ L.parts }
-    requires some { 0 < L.parts }
-{
-    let mut steps = Steps::<L>::new(rt, blank);
-    let mut tree = Tree::new(alloc);
-    for word in [0, 0xff, 0x1ff] {
-        insert(rt, &mut tree, Hash64(word), &mut steps)?;
-    }
-    build(rt, &mut tree, HashNo(0), &mut steps)?;
-    assert!(rt; tree.len() == 3);
-    let root = NodeView {
-        word: Hash64(0),
-        radius: Some(8),
-        inner: Some(HashNo(1)),
-        outer: Some(HashNo(2)),
-        below: 2,
-        built: 2,
-    };
-    assert_eq!(rt; tree.node(HashNo(0)), root);
-    assert_leaf(rt, &tree, 1, Hash64(0xff));
-    assert_leaf(rt, &tree, 2, Hash64(0x1ff));
-    Ok(())
-}
-
-#[test]
-fn built_root(rt: HostRuntime) -> Result<(), Fail> {
-    built_root_in::<Brand>(&rt, rt.alloc(), Blank::new(1))?;
-    Ok(())
-}
-
-fn assert_node(
-    rt: &impl Abort,
-    tree: &Tree,
-    at: u32,
-    radius: Option<u8>,
-    parts: (Option<HashNo>, Option<HashNo>),
-    below: u32,
-) {
-    assert!(rt; at < tree.len());
-    let node = tree.node(HashNo(at));
-    assert_eq!(rt; node.radius, radius);
-    assert_eq!(rt; (node.inner, node.outer), parts);
-    assert_eq!(rt; (node.below, node.built), (below, below));
-}
-
-// The others differ from the first word in 16, 1, 2 and 2 bits.
-fn built_nodes_in<L: Ledger>(
-    rt: &(impl Abort + Threads),
-    alloc: Global,
-    blank: Blank,
-) -> Result<(), NoMemory>
-    requires name { blank.name ≡ L.name }
-    requires parts { blank.parts ≡ L.parts }
-    requires some { 0 < L.parts }
-{
-    let mut steps = Steps::<L>::new(rt, blank);
-    let mut tree = Tree::new(alloc);
-    for word in [0, 0xffff, 0x1, 0x3, 0x6] {
-        insert(rt, &mut tree, Hash64(word), &mut steps)?;
-    }
-    build(rt, &mut tree, HashNo(0), &mut steps)?;
-    assert_node(rt, &tree, 0, Some(2), (Some(HashNo(2)), Some(HashNo(1))), 4);
-    assert_node(rt, &tree, 1, None, (None, None), 0);
-    assert_node(rt, &tree, 2, Some(1), (Some(HashNo(3)), Some(HashNo(4))), 2);
-    assert_node(rt, &tree, 3, None, (None, None), 0);
-    let near = [
-        (HashNo(0), 0),
-        (HashNo(2), 1),
-        (HashNo(3), 2),
-        (HashNo(4), 2),
-    ];
-    assert_hits(rt, &tree, 2, &near, &mut steps)
-}
-
-#[test]
-fn built_nodes(rt: HostRuntime) -> Result<(), Fail> {
-    built_nodes_in::<Brand>(&rt, rt.alloc(), Blank::new(1))?;
-    Ok(())
-}
-
-// Words of one bit each lie at the same distance from 0, and at the same from one another.
-fn equal_distances_in<L: Ledger>(
-    rt: &(impl Abort + Threads),
-    alloc: Global,
-    blank: Blank,
-) -> Result<(), NoMemory>
-    requires name { blank.name ≡ L.name }
-    requires parts { blank.parts ≡ L.parts }
-    requires some { 0 < L.parts }
-{
-    let mut steps = Steps::<L>::new(rt, blank);
-    let mut tree = Tree::new(alloc);
-    for word in [0, 0x1, 0x2, 0x4] {
-        insert(rt, &mut tree, Hash64(word), &mut steps)?;
-    }
-    build(rt, &mut tree, HashNo(1), &mut steps)?;
-    assert_node(rt, &tree, 1, Some(2), (Some(HashNo(2)), None), 2);
-    build(rt, &mut tree, HashNo(0), &mut steps)?;
-    assert_node(rt, &tree, 0, Some(1), (Some(HashNo(1)), None), 3);
-    assert_node(rt, &tree, 2, Some(2), (Some(HashNo(3)), None), 1);
-    Ok(())
-}
-
-#[test]
-fn equal_distances(rt: HostRuntime) -> Result<(), Fail> {
-    equal_distances_in::<Brand>(&rt, rt.alloc(), Blank::new(1))?;
+    let mut tree = Tree::new(rt.alloc());
+    four_words_in::<Brand>(&rt, Blank::new(1), &mut tree)?;
     Ok(())
 }
 
@@ -354,29 +429,38 @@ fn assert_all_as_scan<L: Ledger>(
     Ok(())
 }
 
+fn insert_families<L: Ledger>(
+    rt: &impl Abort,
+    tree: &mut Tree,
+    steps: &mut Steps<L>,
+) -> Result<(), NoMemory> {
+    for number in 0..4000 {
+        insert(rt, tree, family_word(number), steps)?;
+    }
+    Ok(())
+}
+
 fn many_words_in<L: Ledger>(
     rt: &(impl Abort + Threads),
-    alloc: Global,
     blank: Blank,
+    tree: &mut Tree,
 ) -> Result<(), NoMemory>
     requires name { blank.name ≡ L.name }
     requires parts { blank.parts ≡ L.parts }
     requires some { 0 < L.parts }
 {
     let mut steps = Steps::<L>::new(rt, blank);
-    let mut tree = Tree::new(alloc);
-    for number in 0..4000 {
-        insert(rt, &mut tree, family_word(number), &mut steps)?;
-    }
-    assert_all_as_scan(rt, &tree, &mut steps)?;
-    build(rt, &mut tree, HashNo(1), &mut steps)?;
-    assert_all_as_scan(rt, &tree, &mut steps)?;
-    build(rt, &mut tree, HashNo(0), &mut steps)?;
-    assert_all_as_scan(rt, &tree, &mut steps)
+    insert_families(rt, tree, &mut steps)?;
+    assert_all_as_scan(rt, tree, &mut steps)?;
+    build(rt, tree, HashNo(1), &mut steps)?;
+    assert_all_as_scan(rt, tree, &mut steps)?;
+    build(rt, tree, HashNo(0), &mut steps)?;
+    assert_all_as_scan(rt, tree, &mut steps)
 }
 
 #[test]
 fn many_words_as_the_scan(rt: HostRuntime) -> Result<(), Fail> {
-    many_words_in::<Brand>(&rt, rt.alloc(), Blank::new(1))?;
+    let mut tree = Tree::new(rt.alloc());
+    many_words_in::<Brand>(&rt, Blank::new(1), &mut tree)?;
     Ok(())
 }

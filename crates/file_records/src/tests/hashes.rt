@@ -79,13 +79,12 @@ fn import_next(
     Ok(())
 }
 
-fn six_files(rt: &impl Abort, alloc: Global) -> Result<Files, Fail> {
-    let mut files = Files::new(alloc);
+fn import_all(rt: &impl Abort, alloc: Global, files: &mut Files) -> Result<(), Fail> {
     for (place, case) in CASES.iter().enumerate() {
-        import_next(rt, alloc, &mut files, case, place as u32)?;
+        import_next(rt, alloc, files, case, place as u32)?;
     }
     assert_eq!(rt; files.len(), 6);
-    Ok(files)
+    Ok(())
 }
 
 fn assert_row(rt: &impl Abort, row: &FileRow, case: &Case) {
@@ -110,23 +109,11 @@ fn assert_found<L: Ledger>(
     assert_row(rt, files.row(file, steps), case);
 }
 
-fn find_all<L: Ledger>(rt: &(impl Abort + Threads), alloc: Global, blank: Blank) -> Result<(), Fail>
-    requires name { blank.name ≡ L.name }
-    requires parts { blank.parts ≡ L.parts }
-    requires some { 0 < L.parts }
-{
-    let mut steps = Steps::<L>::new(rt, blank);
-    let files = six_files(rt, alloc)?;
+fn assert_all_found<L: Ledger>(rt: &impl Abort, files: &Files, steps: &mut Steps<L>) {
     assert_eq!(rt; files.find(&sha_of(71)), None);
     for (place, case) in CASES.iter().enumerate() {
-        assert_found(rt, &files, FileNo(place as u32), case, &mut steps);
+        assert_found(rt, files, FileNo(place as u32), case, steps);
     }
-    Ok(())
-}
-
-#[test]
-fn files_are_found_in_order(rt: HostRuntime) -> Result<(), Fail> {
-    find_all::<Brand>(&rt, rt.alloc(), Blank::new(1))
 }
 
 fn assert_numbers(rt: &impl Abort, files: &Files) {
@@ -146,18 +133,7 @@ fn assert_numbers(rt: &impl Abort, files: &Files) {
 }
 
 // The files of each hash, and behind them none: a hash's number, and the files.
-fn walk_hashes<L: Ledger>(
-    rt: &(impl Abort + Threads),
-    alloc: Global,
-    blank: Blank,
-) -> Result<(), Fail>
-    requires name { blank.name ≡ L.name }
-    requires parts { blank.parts ≡ L.parts }
-    requires some { 0 < L.parts }
-{
-    let mut steps = Steps::<L>::new(rt, blank);
-    let files = six_files(rt, alloc)?;
-    assert_numbers(rt, &files);
+fn assert_nexts<L: Ledger>(rt: &impl Abort, files: &Files, steps: &mut Steps<L>) {
     let nexts = [
         (0, None, Some(FileNo(1))),
         (0, Some(FileNo(0)), Some(FileNo(1))),
@@ -178,15 +154,9 @@ fn walk_hashes<L: Ledger>(
         (u32::MAX, Some(FileNo(u32::MAX)), None),
     ];
     for (hash, after, expected) in nexts {
-        let next = files.files_of(HashNo(hash), after, &mut steps);
+        let next = files.files_of(HashNo(hash), after, steps);
         assert_eq!(rt; next, expected, "at {hash}");
     }
-    Ok(())
-}
-
-#[test]
-fn hashes_lead_to_their_files(rt: HostRuntime) -> Result<(), Fail> {
-    walk_hashes::<Brand>(&rt, rt.alloc(), Blank::new(1))
 }
 
 fn assert_distance(rt: &impl Abort, files: &Files, f: u32, g: u32, expected: Option<u32>) {
@@ -195,9 +165,7 @@ fn assert_distance(rt: &impl Abort, files: &Files, f: u32, g: u32, expected: Opt
 }
 
 // Bits that differ, counted by hand.
-#[test]
-fn the_least_distance_counts(rt: HostRuntime) -> Result<(), Fail> {
-    let files = six_files(&rt, rt.alloc())?;
+fn assert_distances(rt: &impl Abort, files: &Files) {
     let cases = [
         (0, 0, None),
         (0, 3, None),
@@ -211,8 +179,32 @@ fn the_least_distance_counts(rt: HostRuntime) -> Result<(), Fail> {
         (4, 5, Some(60)),
     ];
     for (f, g, expected) in cases {
-        assert_distance(&rt, &files, f, g, expected);
-        assert_distance(&rt, &files, g, f, expected);
+        assert_distance(rt, files, f, g, expected);
+        assert_distance(rt, files, g, f, expected);
     }
+}
+
+fn find_all<L: Ledger>(
+    rt: &(impl Abort + Threads),
+    alloc: Global,
+    blank: Blank,
+    files: &mut Files,
+) -> Result<(), Fail>
+    requires name { blank.name ≡ L.name }
+    requires parts { blank.parts ≡ L.parts }
+    requires some { 0 < L.parts }
+{
+    let mut steps = Steps::<L>::new(rt, blank);
+    import_all(rt, alloc, files)?;
+    assert_all_found(rt, files, &mut steps);
+    assert_numbers(rt, files);
+    assert_nexts(rt, files, &mut steps);
+    assert_distances(rt, files);
     Ok(())
+}
+
+#[test]
+fn files_hashes_and_distances_are_found(rt: HostRuntime) -> Result<(), Fail> {
+    let mut files = Files::new(rt.alloc());
+    find_all::<Brand>(&rt, rt.alloc(), Blank::new(1), &mut files)
 }

@@ -2,7 +2,7 @@
 
 ghost use Rattle.std.specs.Prelude.{◌≡◌, ◌<◌};
 
-use super::{file_of, plan_new, sha_of};
+use super::{import, sha_of};
 use crate::Files;
 use media_types::{FileList, FileNo, NoMemory, SearchDistance, Steps};
 use std::alloc::Global;
@@ -32,8 +32,7 @@ fn note_all(rt: &impl Abort, files: &mut Files, searches: &[(u32, u64)]) {
     }
 }
 
-fn six_files(rt: &impl Abort, alloc: Global) -> Result<Files, Fail> {
-    let mut files = Files::new(alloc);
+fn import_all(rt: &impl Abort, alloc: Global, files: &mut Files) -> Result<(), Fail> {
     let hashes: [(u32, &[u64]); 6] = [
         (0, &[7]),
         (1, &[]),
@@ -43,12 +42,10 @@ fn six_files(rt: &impl Abort, alloc: Global) -> Result<Files, Fail> {
         (5, &[8]),
     ];
     for (number, words) in hashes {
-        let file = file_of(rt, alloc, number, words)?;
-        let plan = plan_new(rt, &mut files, &file)?;
-        assert_eq!(rt; files.commit_import(plan), FileNo(number));
+        import(rt, alloc, files, number, words)?;
     }
-    note_all(rt, &mut files, &[(2, 4), (3, 8), (4, 0)]);
-    Ok(files)
+    note_all(rt, files, &[(2, 4), (3, 8), (4, 0)]);
+    Ok(())
 }
 
 fn assert_searched<L: Ledger>(
@@ -97,49 +94,27 @@ fn assert_queue<L: Ledger>(
     Ok(())
 }
 
-fn distances_rise<L: Ledger>(
-    rt: &(impl Abort + Threads),
-    alloc: Global,
-    blank: Blank,
-) -> Result<(), Fail>
-    requires name { blank.name ≡ L.name }
-    requires parts { blank.parts ≡ L.parts }
-    requires some { 0 < L.parts }
-{
-    let mut steps = Steps::<L>::new(rt, blank);
-    let mut files = six_files(rt, alloc)?;
-    assert_searched(rt, &files, &[(2, 4), (3, 8), (4, 0)], &mut steps);
-    assert_rising(rt, &files, &[3, 2, 0, 2, 4, 0], 7, &[0, 2, 4], &mut steps)?;
-    assert_rising(rt, &files, &[4, 1], 0, &[1], &mut steps)?;
-    assert_rising(rt, &files, &[], 16, &[], &mut steps)?;
-    note_all(rt, &mut files, &[(2, 7), (3, 7), (4, 7)]);
-    assert_searched(rt, &files, &[(2, 7), (3, 8), (4, 7)], &mut steps);
-    assert_rising(
-        rt,
-        &files,
-        &[5, 4, 3, 2, 1, 0],
-        8,
-        &[0, 1, 2, 4, 5],
-        &mut steps,
-    )
+// The greater distance stays: files that are named with a distance, and those of them that rise.
+fn assert_distances_rise<L: Ledger>(
+    rt: &impl Abort,
+    files: &mut Files,
+    steps: &mut Steps<L>,
+) -> Result<(), Fail> {
+    assert_searched(rt, files, &[(2, 4), (3, 8), (4, 0)], steps);
+    assert_rising(rt, files, &[3, 2, 0, 2, 4, 0], 7, &[0, 2, 4], steps)?;
+    assert_rising(rt, files, &[4, 1], 0, &[1], steps)?;
+    assert_rising(rt, files, &[], 16, &[], steps)?;
+    note_all(rt, files, &[(2, 7), (3, 7), (4, 7)]);
+    assert_searched(rt, files, &[(2, 7), (3, 8), (4, 7)], steps);
+    let named = [5, 4, 3, 2, 1, 0];
+    assert_rising(rt, files, &named, 8, &[0, 1, 2, 4, 5], steps)
 }
 
-#[test]
-fn the_greater_distance_stays(rt: HostRuntime) -> Result<(), Fail> {
-    distances_rise::<Brand>(&rt, rt.alloc(), Blank::new(1))
-}
-
-fn files_wait<L: Ledger>(
-    rt: &(impl Abort + Threads),
-    alloc: Global,
-    blank: Blank,
-) -> Result<(), Fail>
-    requires name { blank.name ≡ L.name }
-    requires parts { blank.parts ≡ L.parts }
-    requires some { 0 < L.parts }
-{
-    let mut steps = Steps::<L>::new(rt, blank);
-    let files = six_files(rt, alloc)?;
+fn assert_queues<L: Ledger>(
+    rt: &impl Abort,
+    files: &Files,
+    steps: &mut Steps<L>,
+) -> Result<(), Fail> {
     let queues: [(u64, &[u32]); 5] = [
         (0, &[0, 5]),
         (1, &[0, 4, 5]),
@@ -148,8 +123,12 @@ fn files_wait<L: Ledger>(
         (16, &[0, 2, 3, 4, 5]),
     ];
     for (bits, expected) in queues {
-        assert_queue(rt, &files, bits, expected, &mut steps)?;
+        assert_queue(rt, files, bits, expected, steps)?;
     }
+    Ok(())
+}
+
+fn assert_waiting<L: Ledger>(rt: &impl Abort, files: &Files, steps: &mut Steps<L>) {
     let cases = [
         (0, 0, true),
         (1, 16, false),
@@ -160,16 +139,10 @@ fn files_wait<L: Ledger>(
     for (file, bits, expected) in cases {
         assert!(rt; file < files.len());
         assert_eq!(rt;
-            files.is_queued(FileNo(file), within(rt, bits), &mut steps),
+            files.is_queued(FileNo(file), within(rt, bits), steps),
             expected
         );
     }
-    Ok(())
-}
-
-#[test]
-fn a_file_waits_until_it_is_searched(rt: HostRuntime) -> Result<(), Fail> {
-    files_wait::<Brand>(&rt, rt.alloc(), Blank::new(1))
 }
 
 fn mark(rt: &impl Abort, files: &mut Files, file: u32, live: bool) {
@@ -192,26 +165,39 @@ fn assert_mark<L: Ledger>(
     assert!(rt; !files.wants_search(FileNo(file), within(rt, 0), steps));
 }
 
-fn file_goes_and_comes<L: Ledger>(
+fn assert_goes_and_comes<L: Ledger>(
+    rt: &impl Abort,
+    files: &mut Files,
+    steps: &mut Steps<L>,
+) -> Result<(), Fail> {
+    mark(rt, files, 4, false);
+    assert_mark(rt, files, 4, false, steps);
+    assert_queue(rt, files, 1, &[0, 5], steps)?;
+    mark(rt, files, 4, true);
+    assert_mark(rt, files, 4, true, steps);
+    assert_queue(rt, files, 1, &[0, 4, 5], steps)
+}
+
+fn search_six_files<L: Ledger>(
     rt: &(impl Abort + Threads),
     alloc: Global,
     blank: Blank,
+    files: &mut Files,
 ) -> Result<(), Fail>
     requires name { blank.name ≡ L.name }
     requires parts { blank.parts ≡ L.parts }
     requires some { 0 < L.parts }
 {
     let mut steps = Steps::<L>::new(rt, blank);
-    let mut files = six_files(rt, alloc)?;
-    mark(rt, &mut files, 4, false);
-    assert_mark(rt, &files, 4, false, &mut steps);
-    assert_queue(rt, &files, 1, &[0, 5], &mut steps)?;
-    mark(rt, &mut files, 4, true);
-    assert_mark(rt, &files, 4, true, &mut steps);
-    assert_queue(rt, &files, 1, &[0, 4, 5], &mut steps)
+    import_all(rt, alloc, files)?;
+    assert_queues(rt, files, &mut steps)?;
+    assert_waiting(rt, files, &mut steps);
+    assert_goes_and_comes(rt, files, &mut steps)?;
+    assert_distances_rise(rt, files, &mut steps)
 }
 
 #[test]
-fn a_deleted_file_comes_back(rt: HostRuntime) -> Result<(), Fail> {
-    file_goes_and_comes::<Brand>(&rt, rt.alloc(), Blank::new(1))
+fn a_file_waits_until_it_is_searched_or_deleted(rt: HostRuntime) -> Result<(), Fail> {
+    let mut files = Files::new(rt.alloc());
+    search_six_files::<Brand>(&rt, rt.alloc(), Blank::new(1), &mut files)
 }
