@@ -71,8 +71,10 @@ opened_end n r readings le = ap (opened_from n r) (drop_of_length-le readings le
 pub reading_at : (readings : Readings) (n : ℕ) → n < length readings → (reading : Option Change) × (slice_get readings n ≡ Some reading)
 reading_at readings n lt = (get_or readings n None, slice_get-get_or readings n None lt)
 
-pub same_number : (m n : ℕ) → fails.BadStore m ≡ fails.BadStore n → m ≡ n
-same_number m n e = cc e
+-- a bad store is told by one number
+pub same_number : {A : Type 0} (result : Result A LoadFail) (m n : ℕ) →
+    result ≡ Err (fails.BadStore m) → result ≡ Err (fails.BadStore n) → m ≡ n
+same_number result m n first second = let both = sym first ∙ second in cc both
 
 -- ---- opening again
 

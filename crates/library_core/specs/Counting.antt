@@ -19,7 +19,8 @@ search_meets r tree s = length s.files + work tree r.files s.distance (rising s.
 abbrev pub search_reads : Records → List NodeView → Searching → ℕ
 search_reads r tree s = 64 * (1 + search_meets r tree s)
 
--- what a deletion reads, or its taking back: eight for each near pair that the file is of
+-- A bound on what a deletion reads, or its taking back: eight for each near pair that the file is of, and
+-- sixteen. It may read less.
 abbrev pub live_reads : Records → FileNo → ℕ
 live_reads r file = 8 * (2 + length (filter (λ row. has_file file.0 row.0) (near_pairs r.files)))
 

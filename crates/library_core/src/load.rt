@@ -1,9 +1,9 @@
-ghost use Rattle.std.specs.Prelude.{◌≡◌, ◌≢◌, ◌≤◌, ℕ, true, false, Option, Some, None, Ok, Err, slice_get, option_map, IfOk, IfErr, OnOk};
+ghost use Rattle.std.specs.Prelude.{◌≡◌, ◌≢◌, ◌≤◌, ℕ, true, false, length, Option, Some, None, Ok, Err, slice_get, option_map, IfOk, IfErr, OnOk};
 ghost use Rattle.media_types.specs.Cause.{HasCause, Rose};
 ghost use Rattle.media_base.specs.Keeping.{Readings, HasMore, next_place};
 ghost use Rattle.media_base.specs.declared.change.Change.{Change as ChangeValue};
 ghost use Rattle.library_machine.specs.Changes.{after_reading, command_of, opened};
-ghost use Rattle.library_machine.specs.Records.{Fits};
+ghost use Rattle.library_machine.specs.Records.{Fits, no_records};
 ghost use Rattle.vp_tree.specs.Building.{IsBuiltWhole};
 ghost use Rattle.library_core.specs.Tables.{HasWords, records_of};
 
@@ -94,6 +94,49 @@ fn take_next<K: Keeper, L: Ledger>(
     }
 }
 
+// Does in order what the keeper's changes say, from the first on, and builds the tree of all words.
+fn take_all<K: Keeper, L: Ledger>(
+    tables: &mut Tables,
+    keeper: &mut K,
+    count: u64,
+    steps: &mut Steps<L>,
+) -> Result<(), LoadFail>
+    requires empty { records_of tables.old ≡ no_records }
+    requires ready { K.ready keeper.old }
+    requires place { K.place keeper.old ≡ Some (0, count) }
+    requires told { (readings : Readings) → K.gives keeper.old ≡ Some readings
+        → count ≡ length readings }
+    ensures cause { HasCause (K.faults keeper.old) (K.faults keeper.new) LoadFail.StoreFault result }
+    ensures opened { (readings : Readings) → K.gives keeper.old ≡ Some readings
+        → OnOk result (opened readings ≡ Ok (records_of tables.new)) }
+    ensures bad { (readings : Readings) (n : ℕ) → K.gives keeper.old ≡ Some readings
+        → result ≡ Err (LoadFail.BadStore n) → opened readings ≡ Err n }
+    ensures fits { OnOk result (Fits (records_of tables.new)) }
+    ensures words { OnOk result (HasWords tables.new.tree.rows (records_of tables.new)) }
+    ensures whole { OnOk result (IsBuiltWhole tables.new.tree.rows) }
+    ensures not_alien { result ≢ Err LoadFail.AlienStore }
+    ensures ready { K.ready keeper.new }
+    ensures place { OnOk result (K.place keeper.new ≡ Some (count, count)) }
+    ensures same_alien { K.alien keeper.new ≡ K.alien keeper.old }
+    ensures same_gives { K.gives keeper.new ≡ K.gives keeper.old }
+    ensures same_kept { K.kept keeper.new ≡ K.kept keeper.old }
+    ensures same_limit { K.limit keeper.new ≡ K.limit keeper.old }
+    ensures same_units { K.units keeper.new ≡ K.units keeper.old }
+{
+    for number in 0..count {
+        match take_next(tables, keeper, steps) {
+            Ok(()) => {}
+            Err(TakeFault::Failed) => return Err(LoadFail::StoreFault),
+            Err(TakeFault::NoMemory) => return Err(LoadFail::NoMemory),
+            Err(TakeFault::Bad) => return Err(LoadFail::BadStore(number)),
+        }
+    }
+    match tables.build_tree(steps) {
+        Ok(()) => Ok(()),
+        Err(_want) => Err(LoadFail::NoMemory),
+    }
+}
+
 impl<K: Keeper> Library<K> {
     /// Opens a library: starts the keeper, and does in order what its changes say.
     pub fn load<L: Ledger>(
@@ -132,17 +175,13 @@ impl<K: Keeper> Library<K> {
             Err(fault) => return Err((LoadFail::from(fault), keeper)),
         };
         let mut tables = Tables::new(alloc);
-        for number in 0..count {
-            match take_next(&mut tables, &mut keeper, steps) {
-                Ok(()) => {}
-                Err(TakeFault::Failed) => return Err((LoadFail::StoreFault, keeper)),
-                Err(TakeFault::NoMemory) => return Err((LoadFail::NoMemory, keeper)),
-                Err(TakeFault::Bad) => return Err((LoadFail::BadStore(number), keeper)),
-            }
-        }
-        match tables.build_tree(steps) {
+        match take_all(&mut tables, &mut keeper, count, steps) {
             Ok(()) => Ok(Library { tables, keeper }),
-            Err(_want) => Err((LoadFail::NoMemory, keeper)),
+            Err(fail) => {
+                // Dropping them by a call is proved faster.
+                drop(tables);
+                Err((fail, keeper))
+            }
         }
     }
 

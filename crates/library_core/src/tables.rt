@@ -1,7 +1,7 @@
 ghost use Rattle.std.specs.Prelude.{◌≡◌, [], OnOk};
 ghost use Rattle.vp_tree.specs.Building.{IsBuiltWhole};
 ghost use Rattle.vp_tree.specs.Placing.{ArePlaced};
-ghost use Rattle.library_machine.specs.Records.{Records, no_records};
+ghost use Rattle.library_machine.specs.Records.{Fits, Records, no_records};
 ghost use Rattle.library_core.specs.Tables.{HasWords, Leads, LeadsImport, LeadsLive, LeadsSearch, records_of, words_placed, words_planned};
 
 use crate::plan::TablesPlan;
@@ -203,6 +203,7 @@ impl Tables {
     /// Builds the tree of all words anew.
     pub fn build_tree<L: Ledger>(&mut self, steps: &mut Steps<L>) -> Result<(), NoMemory>
         ensures records { records_of self.new ≡ records_of self.old }
+        ensures fits { Fits (records_of self.new) }
         ensures whole { OnOk result (IsBuiltWhole self.new.tree.rows) }
         ensures words { HasWords self.new.tree.rows (records_of self.new) }
     {

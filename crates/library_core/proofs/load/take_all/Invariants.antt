@@ -1,9 +1,8 @@
-use Rattle.std.proofs.Common.{◌≡◌, ◌≢◌, ◌≤◌, true, Some, length, drop}
+use Rattle.std.proofs.Common.{◌≡◌, ◌≤◌, Some, drop}
 use Rattle.media_base.specs.Keeping.{Readings}
 use Rattle.library_machine.specs.Changes.{opened, opened_from}
-use Rattle.library_machine.specs.Records.{Fits}
 use Rattle.library_core.specs.Tables.{records_of}
-use Rattle.library_core.proofs.library.Library.load.Given as goal
+use Rattle.library_core.proofs.load.take_all.Given as goal
 
 abbrev pub invariant-loop-number : goal.invariant-loop-number
 invariant-loop-number g l = record {
@@ -14,10 +13,7 @@ invariant-loop-number g l = record {
   limit : g.K.Keeper.limit l.keeper ≡ g.K.Keeper.limit l.fn.keeper;
   units : g.K.Keeper.units l.keeper ≡ g.K.Keeper.units l.fn.keeper;
   alien : g.K.Keeper.alien l.keeper ≡ g.K.Keeper.alien l.fn.keeper;
-  own : g.K.Keeper.alien l.fn.keeper ≢ Some true;
   later : g.K.Keeper.faults l.fn.keeper ≤ g.K.Keeper.faults l.keeper;
-  fits : Fits (records_of l.tables);
-  told : (readings : Readings) → g.K.Keeper.gives l.fn.keeper ≡ Some readings → l.count ≡ length readings;
   so_far : (readings : Readings) → g.K.Keeper.gives l.fn.keeper ≡ Some readings
       → opened_from l.number (records_of l.tables) (drop l.number readings) ≡ opened readings;
 }
