@@ -14,8 +14,8 @@ use Rattle.file_records.specs.Searching.{rising}
 use Rattle.vp_tree.specs.declared.node.NodeView.{NodeView}
 use Rattle.library_machine.specs.Records.{Records}
 use Rattle.library_machine.specs.Step.{Outcome, after_search, changed, counts, delete, has_file, undelete, marked, has_room_for_near, next_search, pairs, refused, search, search_files, search_job, search_of, step}
-use Rattle.library_core.specs.Counting.{IsWithin, most_reads}
-use Rattle.library_core.specs.Tables.{words_brought}
+use Rattle.library_tables.specs.Counting.{IsWithin, most_reads}
+use Rattle.library_tables.specs.Tables.{words_brought}
 
 -- the outcome's change brings no words
 abbrev BringsNone : Records → Outcome → Type 0

@@ -15,7 +15,7 @@ use Rattle.library_machine.specs.Laws.{ChangesAreTold, RefusalsChangeNothing}
 use Rattle.library_machine.specs.Records.{Records}
 use Rattle.library_machine.specs.Step.{step}
 use Rattle.library_core.specs.Keeping.{GrowsBy}
-use Rattle.library_core.specs.Tables.{words_brought}
+use Rattle.library_tables.specs.Tables.{words_brought}
 
 -- a step with a change isn't refused
 not_refused : RefusalsChangeNothing → ChangesAreTold → (r : Records) (command : Command) (change : Change) (reply : Reply) →

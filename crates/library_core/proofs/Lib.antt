@@ -1,10 +1,3 @@
 pub mod Bounded
-pub mod Committing
 pub mod Growing
 pub mod Opened
-pub mod PotentialPairs
-pub mod Placing
-pub mod Preparing
-pub mod Queueing
-pub mod Refolding
-pub mod Risen

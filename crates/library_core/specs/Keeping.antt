@@ -7,7 +7,7 @@ use Rattle.vp_tree.specs.declared.node.NodeView.{NodeView}
 use Rattle.vp_tree.specs.Placing.{ArePlaced}
 use Rattle.library_machine.specs.Changes.{is_refused, opened}
 use Rattle.library_machine.specs.Records.{Records, Fits}
-use Rattle.library_core.specs.Tables.{HasWords, words_brought}
+use Rattle.library_tables.specs.Tables.{HasWords, words_brought}
 
 pub record LibraryView (K : Type 0) : Type 0 where
   pub records : Records

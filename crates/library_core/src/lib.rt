@@ -5,13 +5,6 @@
 mod library;
 mod load;
 mod load_fail;
-mod numbers;
-mod pairing;
-mod plan;
-mod planning;
-mod searching;
-mod tables;
-mod words;
 
 pub use library::Library;
 pub use load_fail::LoadFail;

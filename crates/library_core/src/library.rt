@@ -6,13 +6,12 @@ ghost use Rattle.media_base.specs.declared.refusal.Refusal.{Refusal};
 ghost use Rattle.library_machine.specs.Changes.{is_refused, kept_with, opened};
 ghost use Rattle.library_machine.specs.Records.{Fits};
 ghost use Rattle.library_machine.specs.Step as machine;
-ghost use Rattle.library_core.specs.Counting.{IsWithin, most_reads};
+ghost use Rattle.library_tables.specs.Counting.{IsWithin, most_reads};
 ghost use Rattle.library_core.specs.Keeping.{GrowsBy};
 ghost use Rattle.library_core.specs.Opening.{put_refusal};
-ghost use Rattle.library_core.specs.Tables.{HasWords};
+ghost use Rattle.library_tables.specs.Tables.{HasWords};
 
-use crate::plan::Prepared;
-use crate::tables::Tables;
+use library_tables::{Prepared, Tables};
 use media_base::{Caller, Command, Keeper, PutFault, Refusal, Reply, Steps};
 use std::marker::Model;
 use std::sync::ledger::Ledger;
@@ -26,7 +25,7 @@ pub struct Library<K: Keeper> {
 
 impl<K: Keeper> Model for Library<K> {
     ghost use Rattle.library_core.specs.Keeping.{LibraryView, IsInStep};
-    ghost use Rattle.library_core.specs.Tables.{records_of};
+    ghost use Rattle.library_tables.specs.Tables.{records_of};
 
     ghost Value = { LibraryView K };
 

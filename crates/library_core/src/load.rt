@@ -5,12 +5,11 @@ ghost use Rattle.media_base.specs.declared.change.Change.{Change as ChangeValue}
 ghost use Rattle.library_machine.specs.Changes.{after_reading, command_of, opened};
 ghost use Rattle.library_machine.specs.Records.{Fits, no_records};
 ghost use Rattle.vp_tree.specs.Building.{IsBuiltWhole};
-ghost use Rattle.library_core.specs.Tables.{HasWords, records_of};
+ghost use Rattle.library_tables.specs.Tables.{HasWords, records_of};
 
 use crate::library::Library;
 use crate::load_fail::LoadFail;
-use crate::plan::Prepared;
-use crate::tables::Tables;
+use library_tables::{Prepared, Tables};
 use media_base::{Change, Command, Keeper, NextFault, Steps};
 use std::alloc::Global;
 use std::sync::ledger::Ledger;

@@ -7,9 +7,9 @@ use Rattle.library_machine.specs.Records.{Fits, Records}
 use Rattle.library_machine.specs.Step.{step}
 use Rattle.vp_tree.specs.declared.node.NodeView.{NodeView}
 use Rattle.vp_tree.specs.Placing.{ArePlaced}
-use Rattle.library_core.specs.Counting.{IsWithin, most_reads}
+use Rattle.library_tables.specs.Counting.{IsWithin, most_reads}
 use Rattle.library_core.specs.Keeping.{GrowsBy, LibraryView}
-use Rattle.library_core.specs.Tables.{records_of, words_brought, words_placed}
+use Rattle.library_tables.specs.Tables.{records_of, words_brought, words_placed}
 use Rattle.library_core.proofs.Bounded.{bounded_brings, within_still}
 use Rattle.library_core.proofs.Opened.{opens_more}
 use Rattle.library_core.proofs.Growing.{grows, keeps, the_console}

@@ -1,0 +1,58 @@
+use Rattle.std.proofs.Common.{◌≡◌, ◌++◌, List, [], ◌∷◌, length, append_assoc, length-append, refl, arith, ap, sym, ◌∙◌, subst}
+use Rattle.std.proofs.lemmas.List.{map-append, append-nil, length-map}
+use Rattle.media_types.specs.declared.hash.Hash64.{Hash64}
+use Rattle.vp_tree.specs.declared.plan.InsertPlan.{InsertPlan}
+use Rattle.vp_tree.specs.Nodes.{words_in}
+use Rattle.vp_tree.specs.Placing.{ArePlaced}
+use Rattle.library_tables.specs.Tables.{words_planned}
+use Rattle.library_tables.proofs.Placing.{can_take, ended}
+use Rattle.library_tables.proofs.words.place_words.Goals as goal
+
+pub loop-plan-init : goal.loop-plan-init
+loop-plan-init g c =
+    let all = c.into_iter-plan-iterator.ensures.into_iter_gives.0 in
+    record {
+      parts = all;
+      placed = c.placing_laws.ensures.none c.args.tree.now.rows;
+      words = sym (append-nil (words_in c.args.tree.now.rows));
+      steps = λ none. refl;
+      room = rw all c.requires.room;
+    }
+
+pub commit_insert-marked-requires : goal.commit_insert-marked-requires
+commit_insert-marked-requires g c =
+    let l = c.loop-plan in
+    can_take c.args.tree.now.rows l.tree l.yielded c.in-Some.plan c.next.new.self.rest.items c.args.plans.items
+    (ap (λ (rest : List InsertPlan). l.yielded ++ rest) (sym c.in-Some.ensures.steps.0) ∙ l.invariant.parts)
+    l.invariant.words (omega (arith, l.invariant.room, ap length c.in-Some.ensures.steps.0)) c.requires.distinct c.requires.few_words
+
+pub loop-plan-preserved : goal.loop-plan-preserved
+loop-plan-preserved g c =
+    let l = c.loop-plan in
+    let snoc = map-append (λ (plan : InsertPlan). plan.word) l.yielded (c.in-Some.plan ∷ []) in
+    record {
+      parts =
+          append_assoc l.yielded (c.in-Some.plan ∷ []) c.next.new.self.rest.items
+          ∙ ap (λ (rest : List InsertPlan). l.yielded ++ rest) (sym c.in-Some.ensures.steps.0) ∙ l.invariant.parts;
+      placed = rw snoc (c.placing_laws.ensures.one_more _ _ _ _ _ l.invariant.placed c.commit_insert-marked.ensures.placed);
+      words =
+          c.commit_insert-marked.ensures.words ∙ ap (λ (words : List Hash64). words ++ c.in-Some.plan.word ∷ []) l.invariant.words
+          ∙ append_assoc (words_in c.args.tree.now.rows) (words_planned l.yielded) (c.in-Some.plan.word ∷ [])
+          ∙ ap (λ (words : List Hash64). words_in c.args.tree.now.rows ++ words) (sym snoc);
+      steps = λ none.
+          let parts = ap (λ (rest : List InsertPlan). length (l.yielded ++ rest)) (sym c.in-Some.ensures.steps.0) ∙ ap length l.invariant.parts in
+          absurd (omega (arith, ap length none, parts, length-append l.yielded (c.in-Some.plan ∷ c.next.new.self.rest.items), length-map c.args.plans.items (λ (plan : InsertPlan). plan.word)));
+      room = omega (arith, c.commit_insert-marked.ensures.spare, l.invariant.room, ap length c.in-Some.ensures.steps.0);
+    }
+
+pub returns-clause-placed : goal.returns-clause-placed
+returns-clause-placed g c =
+    let l = c.loop-plan in
+    let none = ended l.yielded l.plan-iterator.rest.items c.args.plans.items (sym l.plan-iterator.rest.ok.0 ∙ c.in-None.ensures.steps.0) l.invariant.parts in
+    subst (λ (plans : List InsertPlan). ArePlaced c.args.tree.now.rows (words_planned plans) l.tree.rows) none l.invariant.placed
+
+pub returns-clause-words : goal.returns-clause-words
+returns-clause-words g c =
+    let l = c.loop-plan in
+    let none = ended l.yielded l.plan-iterator.rest.items c.args.plans.items (sym l.plan-iterator.rest.ok.0 ∙ c.in-None.ensures.steps.0) l.invariant.parts in
+    subst (λ (plans : List InsertPlan). words_in l.tree.rows ≡ words_in c.args.tree.now.rows ++ words_planned plans) none l.invariant.words

@@ -1,0 +1,9 @@
+pub mod Counting
+pub mod Tables
+pub use Rattle.library_machine.specs.Records
+pub use Rattle.library_machine.specs.Changes
+pub use Rattle.library_machine.specs.Step
+pub use Rattle.file_records.specs.Words
+pub use Rattle.vp_tree.specs.Nodes
+pub use Rattle.vp_tree.specs.Building
+pub use Rattle.vp_tree.specs.Placing
