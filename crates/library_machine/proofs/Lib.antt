@@ -1,11 +1,3 @@
 pub mod Below
-pub mod Branches
-pub mod Causes
-pub mod Lacking
-pub mod Fitting
-pub mod Refusing
-pub mod Changing
-pub mod FarApart
 pub mod KeptPairs
 pub mod LeastWithin
-pub mod Covering

@@ -2,15 +2,18 @@
 use Rattle.std.specs.Prelude.{◌≡◌, ◌≤◌, ℕ, List, [], length, map}
 use Rattle.media_types.specs.declared.pair_page.PairPage.{PairPage}
 use Rattle.media_base.specs.declared.command.Caller.{Caller}
-use Rattle.media_base.specs.declared.command.Command.TheVariants as commands
-use Rattle.media_base.specs.declared.reply.Reply.TheVariants as replies
+use Rattle.media_base.specs.declared.command.Command.TheVariants.{Ask}
+use Rattle.media_base.specs.declared.command.Query.TheVariants as queries
+use Rattle.media_base.specs.declared.reply.Answer.TheVariants as answers
 use Rattle.spare_tables.specs.Pairs.{pairs_below}
 use Rattle.file_records.specs.Near.{distance_at}
 use Rattle.file_records.specs.Living.{deleted}
 use Rattle.potential_pairs.specs.Pages.{named, page_of, within}
 use Rattle.potential_pairs.specs.Potential.{Row, potentials}
+use Rattle.library_machine.specs.Asking.{potential_pairs, related}
 use Rattle.library_machine.specs.Records.{Records}
-use Rattle.library_machine.specs.Step.{potential_pairs, related, search_queue, step}
+use Rattle.library_machine.specs.Searches.{search_queue}
+use Rattle.library_machine.specs.Step.{step, told}
 
 -- the potential pairs that the distances of all pairs of files make, however far the files were searched
 abbrev pub covered_pairs : Records → List Row
@@ -29,10 +32,10 @@ PairsCover = (r : Records) (m : ℕ) → IsSearched r m → within m (potential_
 -- and such are those that a page lists
 abbrev pub PagesCover : Type 0
 PagesCover = (r : Records) (caller : Caller) (page : PairPage) → IsSearched r page.at_most →
-    (step r caller (commands.Pairs page)).reply
-    ≡ replies.Pairs (map named (page_of page.after page.n page.at_most (covered_pairs r)))
+    step r caller (Ask (queries.Pairs page))
+    ≡ told (answers.Pairs (map named (page_of page.after page.n page.at_most (covered_pairs r))))
 
 -- and that are counted
 abbrev pub CountsCover : Type 0
 CountsCover = (r : Records) (caller : Caller) (m : ℕ) → IsSearched r m →
-    (step r caller (commands.PairCount m)).reply ≡ replies.PairCount (length (within m (covered_pairs r)))
+    step r caller (Ask (queries.PairCount m)) ≡ told (answers.PairCount (length (within m (covered_pairs r))))

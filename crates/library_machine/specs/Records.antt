@@ -44,11 +44,3 @@ IsNew r sha = IsUnknown sha r.files
 -- the decision of this number is recorded, and is undone or not
 abbrev pub IsRecorded : Records → DecisionNo → Bool → Type 0
 IsRecorded r n undone = (row : DecisionRow) × (slice_get r.decisions n.0 ≡ Some row) × (row.undone ≡ undone)
-
--- there are as many files as a library holds
-abbrev pub IsFullOfFiles : Records → Type 0
-IsFullOfFiles r = MAX_FILES ≤ length r.files
-
--- there are as many decisions as a library holds
-abbrev pub IsFullOfDecisions : Records → Type 0
-IsFullOfDecisions r = MAX_DECISIONS ≤ length r.decisions

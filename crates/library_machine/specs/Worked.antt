@@ -1,26 +1,32 @@
 -- Words for small sessions.
-use Rattle.std.specs.Prelude.{ℕ, List, [], map, replicate, None, Some}
+use Rattle.std.specs.Prelude.{ℕ, Bool, true, false, List, [], map, replicate, None, Some, Ok, Err}
 use Rattle.media_types.specs.declared.decision.Code.{Code}
 use Rattle.media_types.specs.declared.decision.Code.TheVariants.{Better}
 use Rattle.media_types.specs.declared.numbers.FileNo.{FileNo}
+use Rattle.media_base.specs.declared.change.Change.TheVariants as changes
 use Rattle.media_base.specs.declared.command.Command.{Command}
-use Rattle.media_base.specs.declared.command.Command.TheVariants as commands
+use Rattle.media_base.specs.declared.command.Command.TheVariants.{Ask, Do, Run, Tend}
+use Rattle.media_base.specs.declared.command.Job.TheVariants as jobs
+use Rattle.media_base.specs.declared.command.Query.TheVariants as queries
+use Rattle.media_base.specs.declared.command.Upkeep.TheVariants as upkeeps
+use Rattle.media_base.specs.declared.refusal.Refusal.TheVariants as refusals
+use Rattle.media_base.specs.declared.refusal.Unmet.{Unmet}
+use Rattle.media_base.specs.declared.reply.Answer.TheVariants as answers
 use Rattle.media_base.specs.declared.reply.ImportStatus.{ImportStatus}
-use Rattle.media_base.specs.declared.reply.Reply.{Reply}
-use Rattle.media_base.specs.declared.reply.Reply.TheVariants as answers
+use Rattle.media_base.specs.Replying.{Reply}
 
 abbrev pub file : ℕ → FileNo
 file k = record { 0 = k }
 
 -- the import of a file whose SHA-256 is 32 times the byte k, with these hashes
 abbrev pub import_with : ℕ → List ℕ → Command
-import_with k words = commands.Import (record {
+import_with k words = Do (changes.File (record {
   sha = record { 0 = replicate 32 k };
   hashes = map (λ word. record { 0 = word }) words;
   size = 7;
   width = 3;
   height = 2;
-})
+}))
 
 -- the same without hashes
 abbrev pub import_of : ℕ → Command
@@ -28,31 +34,51 @@ import_of k = import_with k []
 
 -- a search of files within a distance
 abbrev pub search_of : List ℕ → ℕ → Command
-search_of files d = commands.SearchFiles (record { files = map file files; distance = d })
+search_of files d = Do (changes.Searched (record { files = map file files; distance = d }))
+
+-- a search of the next n files of the queue
+abbrev pub search_next : ℕ → Command
+search_next n = Run (jobs.Search n)
+
+-- a search within distance d from now on
+abbrev pub distance_of : ℕ → Command
+distance_of d = Do (changes.Distance d)
+
+-- the question how much waits
+abbrev pub queues : Command
+queues = Ask queries.Queues
+
+-- the branch that needs it most is to be built anew
+abbrev pub rebalance : Command
+rebalance = Tend upkeeps.Rebalance
+
+-- the question how many pairs are within a distance
+abbrev pub count_within : ℕ → Command
+count_within m = Ask (queries.PairCount m)
 
 -- so many files were searched further than before, and so many are left
 abbrev pub searched : ℕ → ℕ → Reply
-searched count left = answers.Searched (record { searched = count; left = left })
+searched count left = Ok (answers.Searched (record { searched = count; left = left }))
 
 -- so many files wait to be searched
 abbrev pub queued : ℕ → Reply
-queued count = answers.Queues (record { search = count; display = 0 })
+queued count = Ok (answers.Queues (record { search = count; display = 0 }))
 
 -- the first n pairs within a distance
 abbrev pub pairs_from : ℕ → ℕ → Command
-pairs_from n m = commands.Pairs (record { after = None; n = n; at_most = m })
+pairs_from n m = Ask (queries.Pairs (record { after = None; n = n; at_most = m }))
 
 -- the first n pairs within a distance behind the one of files j and k
 abbrev pub pairs_behind : ℕ → ℕ → ℕ → ℕ → Command
-pairs_behind j k n m = commands.Pairs (record { after = Some (file j, file k); n = n; at_most = m })
+pairs_behind j k n m = Ask (queries.Pairs (record { after = Some (file j, file k); n = n; at_most = m }))
 
 -- these pairs of files with their distances
 abbrev pub listed : List (ℕ × ℕ × ℕ) → Reply
-listed pairs = answers.Pairs (map (λ pair. (file pair.0, file pair.1, pair.2)) pairs)
+listed pairs = Ok (answers.Pairs (map (λ pair. (file pair.0, file pair.1, pair.2)) pairs))
 
 -- a decision of files a and b
 abbrev pub decide_of : Code → ℕ → ℕ → Command
-decide_of code a b = commands.Decide (record { code = code; a = file a; b = file b })
+decide_of code a b = Do (changes.Decision (record { code = code; a = file a; b = file b }))
 
 -- the decision that file a is better than file b
 abbrev pub better_than : ℕ → ℕ → Command
@@ -60,39 +86,58 @@ better_than = decide_of Better
 
 -- the undoing of decision n
 abbrev pub undo_of : ℕ → Command
-undo_of n = commands.Undo (record { 0 = n })
+undo_of n = Do (changes.Undo (record { 0 = n }))
 
 -- the deletion of file k
 abbrev pub delete_of : ℕ → Command
-delete_of k = commands.Delete (file k)
+delete_of k = Do (changes.Live (file k) false)
 
 -- and what takes it back
 abbrev pub undelete_of : ℕ → Command
-undelete_of k = commands.Undelete (file k)
+undelete_of k = Do (changes.Live (file k) true)
 
 -- the question how file k is related
 abbrev pub relations_of : ℕ → Command
-relations_of k = commands.Relations (file k)
+relations_of k = Ask (queries.Relations (file k))
+
+-- the refusal for this reason
+abbrev pub no : Unmet → Reply
+no why = Err (refusals.Unmet why)
+
+-- whether the file was marked
+abbrev pub changed : Bool → Reply
+changed now = Ok (answers.Changed now)
+
+-- how many pairs there are
+abbrev pub counted : ℕ → Reply
+counted n = Ok (answers.PairCount n)
+
+-- the distance within which files are searched
+abbrev pub within : ℕ → Reply
+within d = Ok (answers.Distance d)
+
+abbrev pub rebalanced : Reply
+rebalanced = Ok answers.Rebalanced
 
 abbrev pub imported : ℕ → ImportStatus → Reply
-imported k status = answers.Imported (record { file = file k; status = status })
+imported k status = Ok (answers.Imported (record { file = file k; status = status }))
 
 -- the decision is recorded under number n
 abbrev pub decided : ℕ → Reply
-decided n = answers.Decided (record { 0 = n })
+decided n = Ok (answers.Decided (record { 0 = n }))
 
 -- decision n is undone now
 abbrev pub undone : ℕ → Reply
-undone n = answers.Undone (record { 0 = n })
+undone n = Ok (answers.Undone (record { 0 = n }))
 
 -- how a file stands
 abbrev pub standing : ℕ → List ℕ → List ℕ → List ℕ → Reply
-standing king members alternates not_related = answers.Relations (record {
+standing king members alternates not_related = Ok (answers.Relations (record {
   king = file king;
   members = map file members;
   alternates = map file alternates;
   not_related = map file not_related;
-})
+}))
 
 -- the file's king and the members of its group, where no other group is related to it
 abbrev pub grouped : ℕ → List ℕ → Reply

@@ -9,6 +9,6 @@ mod worked;
 
 pub use laws::{
     changes_are_kept, deletions_are_taken_back, empty_queue_covers, records_stay_fit,
-    refusals_change_nothing, refusals_have_causes, steps_never_lack,
+    refusals_change_nothing, refusals_have_causes,
 };
 pub use worked::worked_rows;

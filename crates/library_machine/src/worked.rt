@@ -1,15 +1,13 @@
 ghost use Rattle.std.specs.Prelude.{◌≡◌, true, false, [], ◌∷◌};
 ghost use Rattle.media_types.specs.declared.decision.Code.TheVariants.{Alternates, NotRelated, Same};
-ghost use Rattle.media_base.specs.declared.command.Command.TheVariants.{PairCount as CountPairs, Queues, RebalanceJob, SearchDistance, SearchJob};
-ghost use Rattle.media_base.specs.declared.refusal.Refusal.TheVariants.{AlreadyUndone, SameFile, UnknownDecision, UnknownFile};
+ghost use Rattle.media_base.specs.declared.refusal.Unmet.TheVariants.{AlreadyUndone, SameFile, UnknownDecision, UnknownFile};
 ghost use Rattle.media_base.specs.declared.reply.ImportStatus.TheVariants.{New, Known, Deleted};
-ghost use Rattle.media_base.specs.declared.reply.Reply.TheVariants.{Changed, Distance, PairCount, Rebalanced, Refused};
 ghost use Rattle.library_machine.specs.Records.{no_records};
 ghost use Rattle.library_machine.specs.Session.{replies, replies_behind};
-ghost use Rattle.library_machine.specs.Worked.{decide_of, import_of, import_with, queued, pairs_from, pairs_behind, listed, search_of, searched, better_than, delete_of, undelete_of, relations_of, undo_of, imported, decided, undone, grouped, standing};
+ghost use Rattle.library_machine.specs.Worked.{decide_of, import_of, import_with, queued, queues, pairs_from, pairs_behind, count_within, counted, listed, search_of, search_next, searched, distance_of, within, better_than, delete_of, undelete_of, changed, rebalance, rebalanced, relations_of, undo_of, imported, decided, undone, grouped, standing, no};
 
 /// Small sessions whose replies can be followed by hand. The call does nothing.
-#[tactic(auto, unfolding(crate::specs::Step::step, crate::specs::Step::import, crate::specs::Step::delete, crate::specs::Step::undelete, crate::specs::Step::decide, crate::specs::Step::undo, crate::specs::Step::relations, crate::specs::Step::set_distance, crate::specs::Step::search, crate::specs::Step::search_files, crate::specs::Step::search_job, crate::specs::Step::queues, file_records::specs::Searching::queue_of, file_records::specs::Searching::searched, file_records::specs::Searching::rising, file_records::specs::Near::near_at, spare_tables::specs::Pairs::pairs_below, potential_pairs::specs::Potential::potential_at, potential_pairs::specs::Pages::page_of, crate::specs::Step::pairs, crate::specs::Step::pair_count, relation_groups::specs::Relations::relations_at))]
+#[tactic(auto, unfolding(crate::specs::Step::step, crate::specs::Step::admitted, crate::specs::Changing::needs, crate::specs::Changing::is_idle, crate::specs::Changing::effect, crate::specs::Changing::answer_to, crate::specs::Asking::query_needs, crate::specs::Asking::answer, crate::specs::Jobs::worked_out, crate::specs::Jobs::tended, file_records::specs::Searching::queue_of, file_records::specs::Searching::searched, file_records::specs::Searching::rising, file_records::specs::Near::near_at, spare_tables::specs::Pairs::pairs_below, potential_pairs::specs::Potential::potential_at, potential_pairs::specs::Pages::page_of, relation_groups::specs::Relations::relations_at))]
 pub fn worked_rows()
     ensures a_known_file_keeps_its_number { replies no_records (import_of 10 ∷ import_of 11 ∷ import_of 10 ∷ [])
         ≡ imported 0 New ∷ imported 1 New ∷ imported 0 Known ∷ [] }
@@ -18,13 +16,13 @@ pub fn worked_rows()
         ≡ imported 0 New ∷ imported 1 New ∷ decided 0 ∷ grouped 0 (0 ∷ 1 ∷ []) ∷ [] }
 
     ensures one_file_twice { replies no_records (import_of 10 ∷ better_than 0 0 ∷ [])
-        ≡ imported 0 New ∷ Refused SameFile ∷ [] }
+        ≡ imported 0 New ∷ no SameFile ∷ [] }
 
     // That the file isn't there is told before that it is named twice.
     ensures no_such_file_twice { replies no_records (import_of 10 ∷ better_than 5 5 ∷ [])
-        ≡ imported 0 New ∷ Refused UnknownFile ∷ [] }
+        ≡ imported 0 New ∷ no UnknownFile ∷ [] }
     ensures no_such_file { replies no_records (import_of 10 ∷ relations_of 1 ∷ [])
-        ≡ imported 0 New ∷ Refused UnknownFile ∷ [] }
+        ≡ imported 0 New ∷ no UnknownFile ∷ [] }
 
     // The second decision finds the two files in one group already, and is recorded all the same.
     ensures no_effect_and_a_number { replies no_records (import_of 10 ∷ import_of 11 ∷ better_than 0 1 ∷ better_than 0 1 ∷ relations_of 0 ∷ [])
@@ -42,7 +40,7 @@ pub fn worked_rows()
         (import_of 10 ∷ import_of 11 ∷ import_of 12 ∷ better_than 0 1 ∷ better_than 1 2 ∷ [])
         (relations_of 2 ∷ undo_of 0 ∷ relations_of 2 ∷ relations_of 0 ∷ undo_of 0 ∷ undo_of 2 ∷ [])
         ≡ grouped 0 (0 ∷ 1 ∷ 2 ∷ []) ∷ undone 0 ∷ grouped 1 (1 ∷ 2 ∷ []) ∷ grouped 0 (0 ∷ [])
-        ∷ Refused AlreadyUndone ∷ Refused UnknownDecision ∷ [] }
+        ∷ no AlreadyUndone ∷ no UnknownDecision ∷ [] }
     ensures not_related_across_alternates { replies_behind
         (import_of 10 ∷ import_of 11 ∷ import_of 12 ∷ decide_of NotRelated 0 1 ∷ decide_of Alternates 1 2 ∷ [])
         (relations_of 2 ∷ undo_of 1 ∷ relations_of 2 ∷ relations_of 0 ∷ [])
@@ -54,57 +52,57 @@ pub fn worked_rows()
         ≡ standing 1 (1 ∷ []) (0 ∷ []) [] ∷ [] }
     ensures queue_by_distance { replies_behind
         (import_with 10 (0xaa ∷ []) ∷ import_with 11 (0xaa ∷ []) ∷ [])
-        (Queues ∷ SearchJob 1 ∷ search_of (1 ∷ 1 ∷ []) 3 ∷ search_of (1 ∷ []) 2 ∷ SearchJob 5 ∷ SearchDistance 9 ∷ Queues ∷ [])
-        ≡ queued 2 ∷ searched 1 1 ∷ searched 1 1 ∷ searched 0 1 ∷ searched 1 0 ∷ Distance 9 ∷ queued 2 ∷ [] }
+        (queues ∷ search_next 1 ∷ search_of (1 ∷ 1 ∷ []) 3 ∷ search_of (1 ∷ []) 2 ∷ search_next 5 ∷ distance_of 9 ∷ queues ∷ [])
+        ≡ queued 2 ∷ searched 1 1 ∷ searched 1 1 ∷ searched 0 1 ∷ searched 1 0 ∷ within 9 ∷ queued 2 ∷ [] }
 
     // A file without a hash isn't in the queue, and can be searched all the same.
     ensures no_hash_to_search { replies_behind
         (import_of 10 ∷ import_with 11 (0 ∷ []) ∷ [])
-        (Queues ∷ search_of (1 ∷ 0 ∷ 1 ∷ []) 8 ∷ SearchJob 1 ∷ SearchDistance 8 ∷ [])
-        ≡ queued 1 ∷ searched 2 0 ∷ searched 0 0 ∷ Distance 8 ∷ [] }
-    ensures no_such_file_to_search { replies_behind (import_of 10 ∷ []) (search_of (0 ∷ 1 ∷ []) 8 ∷ Queues ∷ RebalanceJob ∷ [])
-        ≡ Refused UnknownFile ∷ queued 0 ∷ Rebalanced ∷ [] }
+        (queues ∷ search_of (1 ∷ 0 ∷ 1 ∷ []) 8 ∷ search_next 1 ∷ distance_of 8 ∷ [])
+        ≡ queued 1 ∷ searched 2 0 ∷ searched 0 0 ∷ within 8 ∷ [] }
+    ensures no_such_file_to_search { replies_behind (import_of 10 ∷ []) (search_of (0 ∷ 1 ∷ []) 8 ∷ queues ∷ rebalance ∷ [])
+        ≡ no UnknownFile ∷ queued 0 ∷ rebalanced ∷ [] }
     ensures pairs_by_distance { replies_behind
         (import_with 10 (0 ∷ []) ∷ import_with 11 (0xff ∷ []) ∷ import_with 12 (0x1ff ∷ []) ∷ [])
-        (SearchJob 3 ∷ pairs_from 10 16 ∷ SearchDistance 9 ∷ Queues ∷ SearchJob 3 ∷ pairs_from 10 16 ∷ pairs_behind 0 1 1 16 ∷ CountPairs 8 ∷ [])
-        ≡ searched 3 0 ∷ listed ((0, 1, 8) ∷ (1, 2, 1) ∷ []) ∷ Distance 9 ∷ queued 3 ∷ searched 3 0
-        ∷ listed ((0, 1, 8) ∷ (0, 2, 9) ∷ (1, 2, 1) ∷ []) ∷ listed ((0, 2, 9) ∷ []) ∷ PairCount 2 ∷ [] }
+        (search_next 3 ∷ pairs_from 10 16 ∷ distance_of 9 ∷ queues ∷ search_next 3 ∷ pairs_from 10 16 ∷ pairs_behind 0 1 1 16 ∷ count_within 8 ∷ [])
+        ≡ searched 3 0 ∷ listed ((0, 1, 8) ∷ (1, 2, 1) ∷ []) ∷ within 9 ∷ queued 3 ∷ searched 3 0
+        ∷ listed ((0, 1, 8) ∷ (0, 2, 9) ∷ (1, 2, 1) ∷ []) ∷ listed ((0, 2, 9) ∷ []) ∷ counted 2 ∷ [] }
     ensures both_are_searched { replies_behind
         (import_with 10 (0xaa ∷ []) ∷ import_with 11 (0xaa ∷ []) ∷ [])
-        (SearchJob 1 ∷ pairs_from 10 16 ∷ SearchJob 1 ∷ pairs_from 10 16 ∷ SearchJob 1 ∷ [])
+        (search_next 1 ∷ pairs_from 10 16 ∷ search_next 1 ∷ pairs_from 10 16 ∷ search_next 1 ∷ [])
         ≡ searched 1 1 ∷ listed [] ∷ searched 1 0 ∷ listed ((0, 1, 0) ∷ []) ∷ searched 0 0 ∷ [] }
     ensures groups_join_and_part { replies_behind
-        (import_with 10 (0 ∷ []) ∷ import_with 11 (1 ∷ []) ∷ import_with 12 (3 ∷ []) ∷ SearchJob 3 ∷ [])
+        (import_with 10 (0 ∷ []) ∷ import_with 11 (1 ∷ []) ∷ import_with 12 (3 ∷ []) ∷ search_next 3 ∷ [])
         (pairs_from 10 16 ∷ pairs_from 10 1 ∷ better_than 0 1 ∷ pairs_from 10 16 ∷ undo_of 0 ∷ pairs_from 10 16 ∷ [])
         ≡ listed ((0, 1, 1) ∷ (0, 2, 2) ∷ (1, 2, 1) ∷ []) ∷ listed ((0, 1, 1) ∷ (1, 2, 1) ∷ [])
         ∷ decided 0 ∷ listed ((0, 2, 1) ∷ []) ∷ undone 0 ∷ listed ((0, 1, 1) ∷ (0, 2, 2) ∷ (1, 2, 1) ∷ []) ∷ [] }
     ensures alternates_are_no_pair { replies_behind
-        (import_with 10 (0 ∷ []) ∷ import_with 11 (1 ∷ []) ∷ import_with 12 (3 ∷ []) ∷ SearchJob 3 ∷ [])
+        (import_with 10 (0 ∷ []) ∷ import_with 11 (1 ∷ []) ∷ import_with 12 (3 ∷ []) ∷ search_next 3 ∷ [])
         (decide_of Alternates 0 1 ∷ pairs_from 10 16 ∷ undo_of 0 ∷ pairs_from 10 16 ∷ [])
         ≡ decided 0 ∷ listed ((0, 2, 2) ∷ (1, 2, 1) ∷ []) ∷ undone 0
         ∷ listed ((0, 1, 1) ∷ (0, 2, 2) ∷ (1, 2, 1) ∷ []) ∷ [] }
     ensures not_related_groups_are_no_pair { replies_behind
-        (import_with 10 (0 ∷ []) ∷ import_with 11 (1 ∷ []) ∷ import_with 12 (3 ∷ []) ∷ SearchJob 3 ∷ better_than 0 1 ∷ [])
-        (decide_of NotRelated 1 2 ∷ CountPairs 16 ∷ undo_of 1 ∷ pairs_from 10 16 ∷ [])
-        ≡ decided 1 ∷ PairCount 0 ∷ undone 1 ∷ listed ((0, 2, 1) ∷ []) ∷ [] }
+        (import_with 10 (0 ∷ []) ∷ import_with 11 (1 ∷ []) ∷ import_with 12 (3 ∷ []) ∷ search_next 3 ∷ better_than 0 1 ∷ [])
+        (decide_of NotRelated 1 2 ∷ count_within 16 ∷ undo_of 1 ∷ pairs_from 10 16 ∷ [])
+        ≡ decided 1 ∷ counted 0 ∷ undone 1 ∷ listed ((0, 2, 1) ∷ []) ∷ [] }
     ensures known_and_deleted { replies no_records (import_of 10 ∷ import_of 10 ∷ delete_of 0 ∷ import_of 10 ∷ delete_of 0 ∷ undelete_of 0 ∷ import_of 10 ∷ undelete_of 0 ∷ [])
-        ≡ imported 0 New ∷ imported 0 Known ∷ Changed true ∷ imported 0 Deleted ∷ Changed false
-        ∷ Changed true ∷ imported 0 Known ∷ Changed false ∷ [] }
+        ≡ imported 0 New ∷ imported 0 Known ∷ changed true ∷ imported 0 Deleted ∷ changed false
+        ∷ changed true ∷ imported 0 Known ∷ changed false ∷ [] }
     ensures no_such_file_to_delete { replies_behind (import_of 10 ∷ []) (delete_of 1 ∷ undelete_of 1 ∷ [])
-        ≡ Refused UnknownFile ∷ Refused UnknownFile ∷ [] }
+        ≡ no UnknownFile ∷ no UnknownFile ∷ [] }
     ensures deleted_files_make_no_pair { replies_behind
-        (import_with 10 (0 ∷ []) ∷ import_with 11 (1 ∷ []) ∷ import_with 12 (3 ∷ []) ∷ SearchJob 3 ∷ better_than 0 1 ∷ [])
+        (import_with 10 (0 ∷ []) ∷ import_with 11 (1 ∷ []) ∷ import_with 12 (3 ∷ []) ∷ search_next 3 ∷ better_than 0 1 ∷ [])
         (delete_of 1 ∷ pairs_from 10 16 ∷ relations_of 0 ∷ undelete_of 1 ∷ pairs_from 10 16 ∷ [])
-        ≡ Changed true ∷ listed ((0, 2, 2) ∷ []) ∷ grouped 0 (0 ∷ 1 ∷ []) ∷ Changed true ∷ listed ((0, 2, 1) ∷ []) ∷ [] }
+        ≡ changed true ∷ listed ((0, 2, 2) ∷ []) ∷ grouped 0 (0 ∷ 1 ∷ []) ∷ changed true ∷ listed ((0, 2, 1) ∷ []) ∷ [] }
 
     // A file that comes back waits again where it wasn't searched far enough.
     ensures deleted_files_do_not_wait { replies_behind
         (import_with 10 (0 ∷ []) ∷ import_with 11 (1 ∷ []) ∷ [])
-        (delete_of 1 ∷ Queues ∷ SearchJob 5 ∷ undelete_of 1 ∷ Queues ∷ delete_of 0 ∷ undelete_of 0 ∷ Queues ∷ [])
-        ≡ Changed true ∷ queued 1 ∷ searched 1 0 ∷ Changed true ∷ queued 1
-        ∷ Changed true ∷ Changed true ∷ queued 1 ∷ [] }
+        (delete_of 1 ∷ queues ∷ search_next 5 ∷ undelete_of 1 ∷ queues ∷ delete_of 0 ∷ undelete_of 0 ∷ queues ∷ [])
+        ≡ changed true ∷ queued 1 ∷ searched 1 0 ∷ changed true ∷ queued 1
+        ∷ changed true ∷ changed true ∷ queued 1 ∷ [] }
     ensures all_bits_differ { replies_behind
-        (import_with 10 (0 ∷ []) ∷ import_with 11 (0xffffffffffffffff ∷ []) ∷ SearchDistance 16 ∷ [])
-        (SearchJob 2 ∷ pairs_from 10 16 ∷ [])
+        (import_with 10 (0 ∷ []) ∷ import_with 11 (0xffffffffffffffff ∷ []) ∷ distance_of 16 ∷ [])
+        (search_next 2 ∷ pairs_from 10 16 ∷ [])
         ≡ searched 2 0 ∷ listed [] ∷ [] }
 {}

@@ -19,7 +19,7 @@ mod status;
 pub use bytes_sink::BytesSink;
 pub use bytes_source::BytesSource;
 pub use change::{Change, ChangeList};
-pub use command::{Caller, Command};
+pub use command::{Caller, Command, Job, Query, Upkeep};
 pub use gather::Gather;
 pub use keeper::{Keeper, NextFault, PutFault, StartFault};
 pub use media_types::{
@@ -29,8 +29,8 @@ pub use media_types::{
     MAX_HASHES, MAX_NEAR, MAX_WORDS, NearList, NewFile, NoMemory, PairList, PairPage,
     SearchDistance, Searching, ServiceNo, Sha, SizeList, Steps, TagNo, distance,
 };
-pub use refusal::{FieldName, Refusal};
-pub use reply::{ImportStatus, Imported, QueueLengths, Reply, SearchCounts};
+pub use refusal::{FieldName, Refusal, Unmet};
+pub use reply::{Answer, ImportStatus, Imported, QueueLengths, Reply, SearchCounts};
 pub use sink::{Sink, write_all};
 pub use source::Source;
 pub use status::Status;

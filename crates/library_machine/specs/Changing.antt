@@ -1,0 +1,74 @@
+-- The changes of the records: what each needs, when it would change nothing, what is recorded then, and what is told.
+use Rattle.std.specs.Prelude.{ℕ, Bool, true, false, ◌==◌, not, if◌then◌else◌, List, [], ◌∷◌, ◌++◌, length, Option, Some, None, Result}
+use Rattle.media_types.specs.declared.numbers.FileNo.{FileNo}
+use Rattle.media_base.specs.declared.change.Change.{Change}
+use Rattle.media_base.specs.declared.change.Change.TheVariants as changes
+use Rattle.media_base.specs.declared.refusal.Unmet.{Unmet}
+use Rattle.media_base.specs.declared.reply.Answer.{Answer}
+use Rattle.media_base.specs.declared.reply.Answer.TheVariants as answers
+use Rattle.media_base.specs.declared.reply.ImportStatus.{ImportStatus}
+use Rattle.media_base.specs.declared.reply.ImportStatus.TheVariants as imports
+use Rattle.file_records.specs.declared.file_row.FileRow.{FileRow}
+use Rattle.file_records.specs.Living.{is_live, with_live_mark}
+use Rattle.file_records.specs.Lookup.{file_with}
+use Rattle.file_records.specs.Rows.{row_of}
+use Rattle.decision_book.specs.Recorded.{undone_at}
+use Rattle.decision_book.specs.Standing as book
+use Rattle.library_machine.specs.Guards.{guarded}
+use Rattle.library_machine.specs.Needs.{Need, file_there, files_there, two_files, decision_there, not_undone, room_for_file, room_for_near, room_for_decision, is_known, is_met, unmet}
+use Rattle.library_machine.specs.Records.{Records}
+use Rattle.library_machine.specs.Searches.{after_search, counts, is_empty, risen}
+
+-- the needs in the order of their refusals
+unfoldable pub needs : Change → List Need
+needs (changes.File file) = room_for_file file.sha ∷ []
+needs (changes.Live f live) = file_there f ∷ []
+needs (changes.Decision d) = file_there d.a ∷ file_there d.b ∷ two_files d ∷ room_for_decision ∷ []
+needs (changes.Undo n) = decision_there n ∷ not_undone n ∷ []
+needs (changes.Distance d) = []
+needs (changes.Searched s) = files_there s.files ∷ room_for_near s ∷ []
+
+-- whether the file's mark is this one
+abbrev pub is_marked : Records → FileNo → Bool → Bool
+is_marked r f true = is_live r.files f.0
+is_marked r f false = not (is_live r.files f.0)
+
+-- It would change nothing. A decision is recorded whether or not it has an effect.
+unfoldable pub is_idle : Records → Change → Bool
+is_idle r (changes.File file) = is_known r file.sha
+is_idle r (changes.Live f live) = is_marked r f live
+is_idle r (changes.Decision d) = false
+is_idle r (changes.Undo n) = false
+is_idle r (changes.Distance d) = r.distance == d
+is_idle r (changes.Searched s) = is_empty (risen r s)
+
+-- What is recorded then, where it isn't idle. A marked file keeps all else; an undone decision keeps its number; and
+-- how far each file was searched stays when the distance changes.
+unfoldable pub effect : Records → Change → Records
+effect r (changes.File file) = record r { files = r.files ++ row_of file ∷ [] }
+effect r (changes.Live f live) = record r { files = with_live_mark f.0 live r.files }
+effect r (changes.Decision d) = record r { decisions = r.decisions ++ book.row_of d ∷ [] }
+effect r (changes.Undo n) = record r { decisions = undone_at n.0 r.decisions }
+effect r (changes.Distance d) = record r { distance = d }
+effect r (changes.Searched s) = after_search r s
+
+-- what an import finds of the known file of number k
+abbrev pub known_status : List FileRow → ℕ → ImportStatus
+known_status rows k = if is_live rows k then imports.Known else imports.Deleted
+
+-- what an import tells of the file at this place, or of a new one
+abbrev pub imported : Records → Option ℕ → Answer
+imported r (Some at) = answers.Imported (record { file = record { 0 = at }; status = known_status r.files at })
+imported r None = answers.Imported (record { file = record { 0 = length r.files }; status = imports.New })
+
+unfoldable pub answer_to : Records → Change → Answer
+answer_to r (changes.File file) = imported r (file_with file.sha r.files)
+answer_to r (changes.Live f live) = answers.Changed (not (is_marked r f live))
+answer_to r (changes.Decision d) = answers.Decided (record { 0 = length r.decisions })
+answer_to r (changes.Undo n) = answers.Undone n
+answer_to r (changes.Distance d) = answers.Distance d
+answer_to r (changes.Searched s) = counts (risen r s) (after_search r s)
+
+-- whether the change would change nothing, or why it is refused
+abbrev pub does : Records → Change → Result Bool Unmet
+does r c = guarded (is_met r) unmet (needs c) (is_idle r c)
