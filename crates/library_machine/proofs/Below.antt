@@ -60,6 +60,10 @@ MarkTakenBack = (n : ℕ) (live : Bool) (files : List FileRow) (row : FileRow) �
 abbrev pub NoneRises : Type 0
 NoneRises = (d : ℕ) (named : List FileNo) (files : List FileRow) → (rising d named files ≡ []) ↔ (searched d named files ≡ files)
 
+-- a search of no files changes nothing
+abbrev pub NoneSearched : Type 0
+NoneSearched = (d : ℕ) (files : List FileRow) → searched d [] files ≡ files
+
 -- a search adds and removes no file
 abbrev pub SameLength : Type 0
 SameLength = (d : ℕ) (named : List FileNo) (files : List FileRow) → length (searched d named files) ≡ length files

@@ -1,3 +1,10 @@
 pub mod Below
+pub mod Meeting
+pub mod Good
+pub mod Sound
+pub mod Causes
+pub mod TakingBack
+pub mod FarApart
 pub mod KeptPairs
 pub mod LeastWithin
+pub mod Covering

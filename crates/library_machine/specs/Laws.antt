@@ -63,9 +63,13 @@ abbrev pub AnswersKeepFit : Type 0
 AnswersKeepFit = (r : Records) (caller : Caller) (command : Command) (reply : Reply) (new : Records) →
     Answered r (step r caller command) reply new → Fits r → Fits new
 
--- and after a change that is made
+-- and after a change that is made, where its needs are met and it isn't idle
 abbrev pub ChangesKeepFit : Type 0
 ChangesKeepFit = (r : Records) (change : Change) → does r change ≡ Ok false → Fits r → Fits (effect r change)
+
+-- and such a change leaves other records
+abbrev pub ChangesDiffer : Type 0
+ChangesDiffer = (r : Records) (change : Change) → does r change ≡ Ok false → effect r change ≢ r
 
 -- the first of these needs that isn't met
 abbrev pub Lacks : Records → List Need → Unmet → Type 0

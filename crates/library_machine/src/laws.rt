@@ -1,7 +1,7 @@
 ghost use Rattle.media_base.specs.declared.refusal.Refusal.TheVariants as refusals;
 ghost use Rattle.library_machine.specs.Covering.{PairsCover, PagesCover, CountsCover};
 ghost use Rattle.library_machine.specs.Records.{Fits, no_records};
-ghost use Rattle.library_machine.specs.Laws.{RefusalsChangeNothing, RefusedAnswersChangeNothing, StepsKeepFit, AnswersKeepFit, ChangesKeepFit, ChangesAreTold, ChangesLead, WantsChange, RefusalsHaveCauses, JobsLackRoomAlone, DeletionsAreTakenBack};
+ghost use Rattle.library_machine.specs.Laws.{RefusalsChangeNothing, RefusedAnswersChangeNothing, StepsKeepFit, AnswersKeepFit, ChangesKeepFit, ChangesDiffer, ChangesAreTold, ChangesLead, WantsChange, RefusalsHaveCauses, JobsLackRoomAlone, DeletionsAreTakenBack};
 
 /// A refused command changes nothing.
 pub fn refusals_change_nothing()
@@ -16,6 +16,14 @@ pub fn records_stay_fit()
     ensures after_a_step { StepsKeepFit }
     ensures after_an_answer { AnswersKeepFit }
     ensures after_a_change { ChangesKeepFit }
+{
+    changes_are_good();
+}
+
+// A change that is made leaves records that fit, and others.
+fn changes_are_good()
+    ensures fits { ChangesKeepFit }
+    ensures other { ChangesDiffer }
 {
     file_records::laws();
     file_records::live_laws();
@@ -41,9 +49,7 @@ pub fn changes_are_kept()
     ensures room { WantsChange refusals.JournalFull }
     ensures kept { WantsChange refusals.NotKept }
 {
-    file_records::laws();
-    file_records::live_laws();
-    file_records::search_laws();
+    changes_are_good();
 }
 
 /// A file that was deleted comes back, and then the records are those from before its deletion.

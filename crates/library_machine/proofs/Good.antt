@@ -1,0 +1,215 @@
+-- A change that is made leaves records that fit, and others: a lemma for each change.
+use Rattle.std.proofs.Common.{◌≡◌, ◌≢◌, ◌⊎◌, ◌<◌, ◌≤◌, ◌==◌, inl, inr, ℕ, zero, suc, Bool, true, false, not, nat_lt, Option, Some, None, is_some, option_map, List, [], ◌∷◌, ◌++◌, length, length-append, map, slice_get, Ok, arith, refl, sym, ap, subst, ◌∙◌}
+use Rattle.std.specs.Option.{option_map_or}
+use Rattle.std.proofs.lemmas.Bool.{eqb-false, both_ways}
+use Rattle.std.proofs.lemmas.List.{map-append}
+use Rattle.std.proofs.lemmas.List.Elements.{All-push}
+use Rattle.std.proofs.lemmas.Option.{slice_get_cases}
+use Rattle.media_types.specs.declared.decision.Decision.{Decision}
+use Rattle.media_types.specs.declared.limits.TheConstants.{MAX_DECISIONS, MAX_FILES, MAX_NEAR}
+use Rattle.media_types.specs.declared.new_file.NewFile.{NewFile}
+use Rattle.media_types.specs.declared.numbers.DecisionNo.{DecisionNo}
+use Rattle.media_types.specs.declared.numbers.FileNo.{FileNo}
+use Rattle.media_types.specs.declared.searching.Searching.{Searching}
+use Rattle.media_base.specs.declared.change.Change.{Change}
+use Rattle.media_base.specs.declared.change.Change.TheVariants as changes
+use Rattle.file_records.specs.declared.file_row.FileRow.{FileRow}
+use Rattle.file_records.specs.Lookup.{IsUnknown, file_with}
+use Rattle.file_records.specs.Near.{near_pairs}
+use Rattle.file_records.specs.Rows.{row_of}
+use Rattle.decision_book.specs.declared.decision_row.DecisionRow.{DecisionRow}
+use Rattle.decision_book.specs.Recorded.{undone, undone_at}
+use Rattle.decision_book.specs.Standing as book
+use Rattle.relation_groups.specs.Relations.{AreAmong}
+use Rattle.library_machine.specs.Changing.{does, effect, is_idle, is_marked, needs}
+use Rattle.library_machine.specs.Guards.{AreMet}
+use Rattle.library_machine.specs.Needs.{Met, is_met, unmet}
+use Rattle.library_machine.specs.Records.{Records, Fits, IsThere, IsNew, IsRecorded}
+use Rattle.library_machine.specs.Searches.{after_search, is_empty, risen}
+use Rattle.library_machine.proofs.Below.{NotFound, OneMore, NearOneMore, MarkSameLength, MarkStaysDistinct, MarkSameNear, MarkChanges, SameLength, StayDistinct, NoneRises, SameDecisions, SameRecorded}
+use Rattle.library_machine.proofs.Meeting.{all_met, means, none_there, one_file}
+
+pub record IsGood (r : Records) (c : Change) : Type 0 where
+  pub fits : Fits r → Fits (effect r c)
+  pub other : effect r c ≢ r
+
+longer : {A : Type 0} (xs : List A) (x : A) → xs ++ x ∷ [] ≢ xs
+longer xs x same = let n = ap length same in omega (arith, n, length-append xs)
+
+abbrev files_of : Records → List FileRow
+files_of r = r.files
+
+-- ---- imports
+
+new_by : NotFound → (r : Records) (file : NewFile) (found : Option ℕ) → file_with file.sha r.files ≡ found → is_some found ≡ false → IsNew r file.sha
+new_by not_found r file None is fresh = (not_found file.sha r.files).0 is
+new_by not_found r file (Some at) is fresh = absurd (cc fresh)
+
+-- decisions of files that are there stay so when files are added
+among_more : (n m : ℕ) (ds : List Decision) → n ≤ m → AreAmong n ds → AreAmong m ds
+among_more n m ds le among = λ k d lt. let at = among k d lt in (omega arith, omega arith)
+
+file_good : OneMore → NearOneMore → (r : Records) (file : NewFile) → IsNew r file.sha → (¬ IsNew r file.sha) ⊎ (length r.files < MAX_FILES) →
+    Fits r → Fits (record r { files = r.files ++ row_of file ∷ [] })
+file_good one_more near_one_more r file new (inl known) fits = absurd (known new)
+file_good one_more near_one_more r file new (inr room) fits = record {
+  few_files = omega (arith, room, length-append r.files);
+  few_decisions = fits.few_decisions;
+  few_near = rw (near_one_more (row_of file) r.files refl) fits.few_near;
+  distinct = one_more (row_of file) r.files fits.distinct new;
+  among = among_more (length r.files) _ _ (omega (arith, length-append r.files)) fits.among;
+  of_two = fits.of_two;
+}
+
+-- ---- marks
+
+mark_good : MarkSameLength → MarkStaysDistinct → MarkSameNear → (r : Records) (file : FileNo) (live : Bool) →
+    Fits r → Fits (effect r (changes.Live file live))
+unfolding effect
+mark_good same_length stays_distinct same_near r file live fits = record {
+  few_files = rw (same_length file.0 live r.files) fits.few_files;
+  few_decisions = fits.few_decisions;
+  few_near = rw (same_near file.0 live r.files) fits.few_near;
+  distinct = stays_distinct file.0 live r.files fits.distinct;
+  among = rw (same_length file.0 live r.files) fits.among;
+  of_two = fits.of_two;
+}
+
+-- a file that is there has a row
+pub row_there : (r : Records) (file : FileNo) → IsThere r file → (row : FileRow) × (slice_get r.files file.0 ≡ Some row)
+row_there r file there =
+    elim ((slice_get_cases r.files file.0).1) [ inl some ↦ (some.0, some.2) | inr past ↦ absurd (omega (arith, past.0)) ]
+
+-- whether the row of a file, if there is one, is marked as live
+abbrev pub has_live_mark : Option FileRow → Bool
+has_live_mark found = option_map_or (λ row. row.live) found false
+
+-- a file is marked as its row is
+marked_as : (r : Records) (file : FileNo) (row : FileRow) (live : Bool) → slice_get r.files file.0 ≡ Some row → row.live ≡ live → is_marked r file live ≡ true
+marked_as r file row true is e = ap has_live_mark is ∙ e
+marked_as r file row false is e = ap not (ap has_live_mark is ∙ e)
+
+mark_other : MarkChanges → (r : Records) (file : FileNo) (live : Bool) → IsThere r file → is_marked r file live ≡ false →
+    effect r (changes.Live file live) ≢ r
+unfolding effect
+mark_other mark_changes r file live there fresh same =
+    let row = row_there r file there in
+    let stands = (mark_changes file.0 live r.files row.0 row.1).0 (ap files_of same) in
+    both_ways _ fresh (marked_as r file row.0 live row.1 stands)
+
+-- ---- decisions
+
+decision_good : (r : Records) (d : Decision) → IsThere r d.a → IsThere r d.b → d.a ≢ d.b → length r.decisions < MAX_DECISIONS →
+    Fits r → Fits (record r { decisions = r.decisions ++ book.row_of d ∷ [] })
+decision_good r d a b two room fits = record {
+  few_files = fits.few_files;
+  few_decisions = omega (arith, room, length-append r.decisions);
+  few_near = fits.few_near;
+  distinct = fits.distinct;
+  among =
+      let Among : Decision → Type 0 = λ e. (e.a.0 < length r.files) × (e.b.0 < length r.files) in
+      rw map-append (All-push Among (map book.decision_of r.decisions) d fits.among (a, b));
+  of_two =
+      let OfTwo : Decision → Type 0 = λ e. e.a.0 ≢ e.b.0 in
+      rw map-append (All-push OfTwo (map book.decision_of r.decisions) d fits.of_two (λ e. two (one_file d.a d.b e)));
+}
+
+undoing_good : SameDecisions → SameRecorded → (r : Records) (n : DecisionNo) → Fits r → Fits (record r { decisions = undone_at n.0 r.decisions })
+undoing_good same_decisions same_recorded r n fits = record {
+  few_files = fits.few_files;
+  few_decisions = rw (same_recorded n.0 r.decisions) fits.few_decisions;
+  few_near = fits.few_near;
+  distinct = fits.distinct;
+  among = rw (same_decisions n.0 r.decisions) fits.among;
+  of_two = rw (same_decisions n.0 r.decisions) fits.of_two;
+}
+
+-- the row of an undone decision is another one
+undone_row : (n : ℕ) (rows : List DecisionRow) (row : DecisionRow) → slice_get rows n ≡ Some row → slice_get (undone_at n rows) n ≡ Some (undone row)
+undone_row n [] row e = absurd (cc)
+undone_row zero (first ∷ rows) row e = ap (λ (found : Option DecisionRow). option_map undone found) e
+undone_row (suc n) (first ∷ rows) row e = undone_row n rows row e
+
+undoing_other : (r : Records) (n : DecisionNo) → IsRecorded r n false → record r { decisions = undone_at n.0 r.decisions } ≢ r
+undoing_other r n there same =
+    let rows = ap (λ (s : Records). s.decisions) same in
+    let now = sym (ap (λ (all : List DecisionRow). slice_get all n.0) rows) ∙ undone_row n.0 r.decisions there.0 there.1 in
+    cc (now, there.1, there.2)
+
+-- ---- searches
+
+distance_good : (r : Records) (d : ℕ) → Fits r → Fits (record r { distance = d })
+distance_good r d fits = record {
+  few_files = fits.few_files;
+  few_decisions = fits.few_decisions;
+  few_near = fits.few_near;
+  distinct = fits.distinct;
+  among = fits.among;
+  of_two = fits.of_two;
+}
+
+search_good : SameLength → StayDistinct → (r : Records) (s : Searching) → is_empty (risen r s) ≡ false →
+    (risen r s ≡ []) ⊎ (length (near_pairs (after_search r s).files) ≤ MAX_NEAR) → Fits r → Fits (after_search r s)
+search_good same_length stay_distinct r s fresh (inl none) fits = absurd (both_ways _ fresh ((none_there (risen r s)).1 none))
+search_good same_length stay_distinct r s fresh (inr room) fits = record {
+  few_files = rw (same_length s.distance s.files r.files) fits.few_files;
+  few_decisions = fits.few_decisions;
+  few_near = room;
+  distinct = stay_distinct s.distance s.files r.files fits.distinct;
+  among = rw (same_length s.distance s.files r.files) fits.among;
+  of_two = fits.of_two;
+}
+
+search_other : NoneRises → (r : Records) (s : Searching) → is_empty (risen r s) ≡ false → after_search r s ≢ r
+search_other none_rises r s fresh same =
+    both_ways _ fresh ((none_there (risen r s)).1 ((none_rises s.distance s.files r.files).1 (ap files_of same)))
+
+-- ---- all changes
+
+-- the laws of the crates below by which a change is good
+pub record Laws : Type 0 where
+  pub not_found : NotFound
+  pub one_more : OneMore
+  pub near_one_more : NearOneMore
+  pub mark_same_length : MarkSameLength
+  pub mark_stays_distinct : MarkStaysDistinct
+  pub mark_same_near : MarkSameNear
+  pub mark_changes : MarkChanges
+  pub same_length : SameLength
+  pub stay_distinct : StayDistinct
+  pub none_rises : NoneRises
+  pub same_decisions : SameDecisions
+  pub same_recorded : SameRecorded
+
+-- one line for each change
+pub good : Laws → (r : Records) (c : Change) → AreMet (Met r) (needs c) → is_idle r c ≡ false → IsGood r c
+unfolding needs is_idle effect
+good laws r (changes.File file) met fresh = record {
+  fits = file_good laws.one_more laws.near_one_more r file (new_by laws.not_found r file _ refl fresh) met.0;
+  other = λ same. longer r.files _ (ap files_of same);
+}
+good laws r (changes.Live file live) met fresh = record {
+  fits = mark_good laws.mark_same_length laws.mark_stays_distinct laws.mark_same_near r file live;
+  other = mark_other laws.mark_changes r file live met.0 fresh;
+}
+good laws r (changes.Decision d) met fresh = record {
+  fits = decision_good r d met.0 met.1.0 met.1.1.0 met.1.1.1.0;
+  other = λ same. longer r.decisions _ (ap (λ (s : Records). s.decisions) same);
+}
+good laws r (changes.Undo n) met fresh = record {
+  fits = undoing_good laws.same_decisions laws.same_recorded r n;
+  other = undoing_other r n met.1.0;
+}
+good laws r (changes.Distance d) met fresh = record {
+  fits = distance_good r d;
+  other = λ same. eqb-false _ _ fresh (sym (ap (λ (s : Records). s.distance) same));
+}
+good laws r (changes.Searched s) met fresh = record {
+  fits = search_good laws.same_length laws.stay_distinct r s fresh met.1.0;
+  other = search_other laws.none_rises r s fresh;
+}
+
+pub lawful_good : Laws → (r : Records) (c : Change) → does r c ≡ Ok false → IsGood r c
+lawful_good laws r c made =
+    let p = (all_met (is_met r) (Met r) unmet (means laws.not_found r) (needs c) (is_idle r c) false).0 made in
+    good laws r c p.0 p.1
