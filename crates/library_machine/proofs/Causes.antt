@@ -1,5 +1,5 @@
 -- Exactly why a command is refused: by the kinds of commands, once for all.
-use Rattle.std.proofs.Common.{◌≡◌, ◌≢◌, ◌↔◌, ◌<◌, ◌≤◌, inl, inr, ℕ, Bool, true, false, if◌then◌else◌, Result, Ok, Err, List, [], length, arith, refl, ap, sym, subst, ◌∙◌}
+use Rattle.std.proofs.Common.{◌≡◌, ◌↔◌, inl, inr, Bool, true, false, if◌then◌else◌, Result, Ok, Err, List, [], length, arith, refl, ap, sym, subst, ◌∙◌}
 use Rattle.std.specs.List.{All}
 use Rattle.std.proofs.lemmas.Bool.{cases_lt}
 use Rattle.std.proofs.lemmas.List.Elements.{All-take}
@@ -8,7 +8,6 @@ use Rattle.media_types.specs.declared.numbers.FileNo.{FileNo}
 use Rattle.media_types.specs.declared.searching.Searching.{Searching}
 use Rattle.media_base.specs.declared.change.Change.{Change}
 use Rattle.media_base.specs.declared.change.Change.TheVariants as changes
-use Rattle.media_base.specs.declared.command.Caller.{Caller}
 use Rattle.media_base.specs.declared.command.Caller.TheVariants.{Console}
 use Rattle.media_base.specs.declared.command.Command.{Command}
 use Rattle.media_base.specs.declared.command.Command.TheVariants as commands
@@ -20,13 +19,13 @@ use Rattle.file_records.specs.Near.{near_pairs}
 use Rattle.file_records.specs.Searching.{rising}
 use Rattle.library_machine.specs.Asking.{answer, query_needs}
 use Rattle.library_machine.specs.Changing.{does, is_idle, needs}
-use Rattle.library_machine.specs.Guards.{IsFirstUnmet}
+use Rattle.library_machine.specs.Desks.{Desks}
 use Rattle.library_machine.specs.Jobs.{Deed, tells, makes, worked_out}
 use Rattle.library_machine.specs.Laws.{FindsTooMany, JobsLackRoomAlone, Lacks, Refuses, RefusalsHaveCauses}
 use Rattle.library_machine.specs.Needs.{Met, is_met, room_for_near, unmet}
 use Rattle.library_machine.specs.Records.{Records, IsThere}
-use Rattle.library_machine.specs.Searches.{after_search, counts, is_empty, next_search, risen, search_queue}
-use Rattle.library_machine.specs.Step.{Outcome, refused, told, changed, by_change, made, by_answer, by_deed, step_of, admitted, by_caller, step}
+use Rattle.library_machine.specs.Searches.{after_search, counts, is_empty, next_search, search_queue}
+use Rattle.library_machine.specs.Step.{State, refused, by_change, made, by_answer, by_deed, step_of, admitted, step}
 use Rattle.library_machine.proofs.Below.{NotFound, NoneRises, NoneSearched, QueueIsThere}
 use Rattle.library_machine.proofs.Meeting.{means, first_refuses, none_there}
 
@@ -34,42 +33,43 @@ use Rattle.library_machine.proofs.Meeting.{means, first_refuses, none_there}
 same_why : (x y : Unmet) → refused x ≡ refused y → x ≡ y
 same_why x y e = cc e
 
-by_done : (r : Records) (c : Change) (done : Result Bool Unmet) (why : Unmet) → (by_change r c done ≡ refused why) ↔ (done ≡ Err why)
-by_done r c (Err one) why = (λ e. ap Err (same_why _ _ e), λ e. ap (by_change r c) e)
-by_done r c (Ok true) why = (λ e. absurd (cc e), λ e. absurd (cc e))
-by_done r c (Ok false) why = (λ e. absurd (cc e), λ e. absurd (cc e))
+by_done : (r : Records) (desks : Desks) (c : Change) (done : Result Bool Unmet) (why : Unmet) → (by_change r desks c done ≡ refused why) ↔ (done ≡ Err why)
+by_done r desks c (Err one) why = (λ e. ap Err (same_why _ _ e), λ e. ap (by_change r desks c) e)
+by_done r desks c (Ok true) why = (λ e. absurd (cc e), λ e. absurd (cc e))
+by_done r desks c (Ok false) why = (λ e. absurd (cc e), λ e. absurd (cc e))
 
-made_refused : NotFound → (r : Records) (c : Change) (why : Unmet) → (made r c ≡ refused why) ↔ Lacks r (needs c) why
-made_refused not_found r c why =
-    let a = by_done r c (does r c) why in
+made_refused : NotFound → (r : Records) (desks : Desks) (c : Change) (why : Unmet) → (made r desks c ≡ refused why) ↔ Lacks r (needs c) why
+made_refused not_found r desks c why =
+    let a = by_done r desks c (does r c) why in
     let b = first_refuses (is_met r) (Met r) unmet (means not_found r) (needs c) (is_idle r c) why in
     (λ e. b.0 (a.0 e), λ p. a.1 (b.1 p))
 
-by_result : (result : Result Answer Unmet) (why : Unmet) → (by_answer result ≡ refused why) ↔ (result ≡ Err why)
-by_result (Ok answer) why = (λ e. absurd (cc e), λ e. absurd (cc e))
-by_result (Err one) why = (λ e. ap Err (same_why _ _ e), λ e. ap by_answer e)
+by_result : (desks : Desks) (result : Result Answer Unmet) (why : Unmet) → (by_answer desks result ≡ refused why) ↔ (result ≡ Err why)
+by_result desks (Ok answer) why = (λ e. absurd (cc e), λ e. absurd (cc e))
+by_result desks (Err one) why = (λ e. ap Err (same_why _ _ e), λ e. ap (by_answer desks) e)
 
-job_refused : NotFound → (r : Records) (deed : Deed) (why : Unmet) →
-    (by_deed r deed ≡ refused why) ↔ ((c : Change) × (deed ≡ makes c) × Lacks r (needs c) why)
-job_refused not_found r (tells answer) why = (λ e. absurd (cc e), λ q. absurd (cc q.1))
-job_refused not_found r (makes c) why = (
-  λ e. (c, refl, (made_refused not_found r c why).0 e),
+job_refused : NotFound → (r : Records) (desks : Desks) (deed : Deed) (why : Unmet) →
+    (by_deed r desks deed ≡ refused why) ↔ ((c : Change) × (deed ≡ makes c) × Lacks r (needs c) why)
+job_refused not_found r desks (tells answer) why = (λ e. absurd (cc e), λ q. absurd (cc q.1))
+job_refused not_found r desks (makes c) why = (
+  λ e. (c, refl, (made_refused not_found r desks c why).0 e),
   λ q. let same : c ≡ q.0 = cc q.1 in
-      (made_refused not_found r c why).1 (subst (λ (d : Change). Lacks r (needs d) why) (sym same) q.2),
+      (made_refused not_found r desks c why).1 (subst (λ (d : Change). Lacks r (needs d) why) (sym same) q.2),
 )
 
-step_refused : NotFound → (r : Records) (command : Command) (why : Unmet) → (step_of r command ≡ refused why) ↔ Refuses r command why
-step_refused not_found r (commands.Ask q) why =
-    let a = by_result _ why in
+step_refused : NotFound → (s : State) (command : Command) (why : Unmet) → (step_of s command ≡ refused why) ↔ Refuses s.kept command why
+step_refused not_found s (commands.Ask q) why =
+    let r = s.kept in
+    let a = by_result s.desks _ why in
     let b = first_refuses (is_met r) (Met r) unmet (means not_found r) (query_needs q) (answer r q) why in
     (λ e. b.0 (a.0 e), λ p. a.1 (b.1 p))
-step_refused not_found r (commands.Do c) why = made_refused not_found r c why
-step_refused not_found r (commands.Run j) why = job_refused not_found r (worked_out r j) why
-step_refused not_found r (commands.Tend u) why = (λ e. absurd (cc e), λ none. absurd none)
+step_refused not_found s (commands.Do c) why = made_refused not_found s.kept s.desks c why
+step_refused not_found s (commands.Run j) why = job_refused not_found s.kept s.desks (worked_out s.kept j) why
+step_refused not_found s (commands.Tend u) why = (λ e. absurd (cc e), λ none. absurd none)
 
 pub refusals_have_causes : NotFound → RefusalsHaveCauses
 unfolding step admitted
-refusals_have_causes not_found r Console command why = step_refused not_found r command why
+refusals_have_causes not_found s Console command why = step_refused not_found s command why
 
 -- ---- a search of the next files of the queue
 
@@ -115,9 +115,10 @@ module _ (r : Records) (s : Searching) (why : Unmet) where
 
 pub jobs_lack_room_alone : NotFound → NoneRises → NoneSearched → QueueIsThere → JobsLackRoomAlone
 unfolding worked_out Worked
-jobs_lack_room_alone not_found none_rises none_searched queue_is_there r caller n why =
+jobs_lack_room_alone not_found none_rises none_searched queue_is_there state caller n why =
+    let r = state.kept in
     let s = next_search r n in
     let there = All-take (IsThere r) n (search_queue r) (queue_is_there r.distance r.files) in
-    let a = refusals_have_causes not_found r caller (commands.Run (jobs.Search n)) why in
+    let a = refusals_have_causes not_found state caller (commands.Run (jobs.Search n)) why in
     let b = worked_refused r s why none_rises none_searched there (is_empty s.files) refl in
     (λ e. b.0 (a.0 e), λ q. a.1 (b.1 q))

@@ -186,10 +186,10 @@ pairs_cover same_rows sorted value r m searched =
 
 pub pages_cover : PairsCover → PagesCover
 unfolding step admitted query_needs answer page_of
-pages_cover cover r Console page searched =
-    ap (λ (pairs : List Row). told (answers.Pairs (map named (take page.n (filter (λ row. is_behind page.after row.0) pairs))))) (cover r page.at_most searched)
+pages_cover cover s Console page searched =
+    ap (λ (pairs : List Row). told s.desks (answers.Pairs (map named (take page.n (filter (λ row. is_behind page.after row.0) pairs))))) (cover s.kept page.at_most searched)
 
 pub counts_cover : PairsCover → CountsCover
 unfolding step admitted query_needs answer
-counts_cover cover r Console m searched =
-    ap (λ (pairs : List Row). told (answers.PairCount (length pairs))) (cover r m searched)
+counts_cover cover s Console m searched =
+    ap (λ (pairs : List Row). told s.desks (answers.PairCount (length pairs))) (cover s.kept m searched)

@@ -1,5 +1,5 @@
 -- A deletion is taken back.
-use Rattle.std.proofs.Common.{◌≡◌, ◌==◌, ◌<◌, if◌then◌else◌, nat_lt, ℕ, Bool, true, false, not, inl, inr, Option, Some, None, Ok, Err, option_map, List, length, slice_get, refl, arith, ap, subst, sym, ◌∙◌}
+use Rattle.std.proofs.Common.{◌≡◌, ◌==◌, if◌then◌else◌, nat_lt, ℕ, Bool, true, false, not, inl, inr, Some, Ok, Err, option_map, List, length, slice_get, refl, ap, subst, sym, ◌∙◌}
 use Rattle.std.proofs.lemmas.Bool.{lt-ltb, eq-eqb, both_ways}
 use Rattle.std.proofs.lemmas.Option.{slice_get_cases}
 use Rattle.media_types.specs.declared.numbers.FileNo.{FileNo}
@@ -8,11 +8,11 @@ use Rattle.media_base.specs.declared.command.Caller.TheVariants.{Console}
 use Rattle.media_base.specs.declared.refusal.Unmet.TheVariants as whys
 use Rattle.file_records.specs.declared.file_row.FileRow.{FileRow}
 use Rattle.file_records.specs.Living.{is_live, with_live_mark, with_mark}
-use Rattle.library_machine.specs.Changing.{answer_to, effect, is_idle, is_marked, needs}
+use Rattle.library_machine.specs.Changing.{effect, is_idle, is_marked, needs}
 use Rattle.library_machine.specs.Laws.{DeletionsAreTakenBack}
 use Rattle.library_machine.specs.Needs.{has_file}
 use Rattle.library_machine.specs.Records.{Records}
-use Rattle.library_machine.specs.Step.{admitted, after, by_change, made, step}
+use Rattle.library_machine.specs.Step.{State, admitted, after, by_change, made, step}
 use Rattle.library_machine.proofs.Below.{MarkOfOne, MarkSameLength, MarkTakenBack}
 use Rattle.library_machine.proofs.Good.{has_live_mark}
 
@@ -36,21 +36,22 @@ live_row rows n live =
 abbrev marked : Records → FileNo → Bool → Records
 marked r file live = record r { files = with_live_mark file.0 live r.files }
 
-mark_leads : (r : Records) (file : FileNo) (live : Bool) → has_file r file ≡ true → is_marked r file live ≡ false →
-    after r (made r (changes.Live file live)) ≡ marked r file live
+mark_leads : (s : State) (file : FileNo) (live : Bool) → has_file s.kept file ≡ true → is_marked s.kept file live ≡ false →
+    after s (made s.kept s.desks (changes.Live file live)) ≡ record s { kept = marked s.kept file live }
 unfolding needs is_idle effect
-mark_leads r file live there other =
-    ap (λ (is : Bool). after r (by_change r (changes.Live file live) (if is then Ok (is_marked r file live) else Err whys.UnknownFile))) there
-    ∙ ap (λ (is : Bool). after r (by_change r (changes.Live file live) (Ok is))) other
+mark_leads s file live there other =
+    ap (λ (is : Bool). after s (by_change s.kept s.desks (changes.Live file live) (if is then Ok (is_marked s.kept file live) else Err whys.UnknownFile))) there
+    ∙ ap (λ (is : Bool). after s (by_change s.kept s.desks (changes.Live file live) (Ok is))) other
 
 pub deletions_are_taken_back : MarkOfOne → MarkSameLength → MarkTakenBack → DeletionsAreTakenBack
 unfolding step admitted
-deletions_are_taken_back mark_of_one same_length taken_back r Console file live =
+deletions_are_taken_back mark_of_one same_length taken_back s Console file live =
+    let r = s.kept in
     let row = live_row r.files file.0 live in
     let gone = marked r file false in
     let there : has_file gone file ≡ true = ap (nat_lt file.0) (same_length file.0 false r.files) ∙ row.1 in
     let dead : is_live gone.files file.0 ≡ false = ap has_live_mark (new_row mark_of_one file.0 false r.files row.0 row.2) in
     let back = subst (λ mark. with_live_mark file.0 mark gone.files ≡ r.files) row.3 (taken_back file.0 false r.files row.0 row.2) in
-    ap (λ (s : Records). after s (made s (changes.Live file true))) (mark_leads r file false row.1 (ap not live))
-    ∙ mark_leads gone file true there dead
-    ∙ ap (λ (files : List FileRow). record r { files = files }) back
+    ap (λ (t : State). after t (made t.kept t.desks (changes.Live file true))) (mark_leads s file false row.1 (ap not live))
+    ∙ mark_leads (record s { kept = gone }) file true there dead
+    ∙ ap (λ (files : List FileRow). record s { kept = record r { files = files } }) back

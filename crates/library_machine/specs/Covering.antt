@@ -13,7 +13,7 @@ use Rattle.potential_pairs.specs.Potential.{Row, potentials}
 use Rattle.library_machine.specs.Asking.{potential_pairs, related}
 use Rattle.library_machine.specs.Records.{Records}
 use Rattle.library_machine.specs.Searches.{search_queue}
-use Rattle.library_machine.specs.Step.{step, told}
+use Rattle.library_machine.specs.Step.{State, step, told}
 
 -- the potential pairs that the distances of all pairs of files make, however far the files were searched
 abbrev pub covered_pairs : Records → List Row
@@ -31,11 +31,12 @@ PairsCover = (r : Records) (m : ℕ) → IsSearched r m → within m (potential_
 
 -- and such are those that a page lists
 abbrev pub PagesCover : Type 0
-PagesCover = (r : Records) (caller : Caller) (page : PairPage) → IsSearched r page.at_most →
-    step r caller (Ask (queries.Pairs page))
-    ≡ told (answers.Pairs (map named (page_of page.after page.n page.at_most (covered_pairs r))))
+PagesCover = (s : State) (caller : Caller) (page : PairPage) → IsSearched s.kept page.at_most →
+    step s caller (Ask (queries.Pairs page))
+    ≡ told s.desks (answers.Pairs (map named (page_of page.after page.n page.at_most (covered_pairs s.kept))))
 
 -- and that are counted
 abbrev pub CountsCover : Type 0
-CountsCover = (r : Records) (caller : Caller) (m : ℕ) → IsSearched r m →
-    step r caller (Ask (queries.PairCount m)) ≡ told (answers.PairCount (length (within m (covered_pairs r))))
+CountsCover = (s : State) (caller : Caller) (m : ℕ) → IsSearched s.kept m →
+    step s caller (Ask (queries.PairCount m))
+    ≡ told s.desks (answers.PairCount (length (within m (covered_pairs s.kept))))

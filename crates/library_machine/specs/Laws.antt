@@ -1,5 +1,5 @@
 -- What holds of each step of the machine.
-use Rattle.std.specs.Prelude.{◌≡◌, ◌≢◌, ◌<◌, ◌↔◌, ℕ, Bool, true, false, List, [], Some, None, Ok, Err, length}
+use Rattle.std.specs.Prelude.{◌≡◌, ◌≢◌, ◌<◌, ◌↔◌, ℕ, true, false, List, [], Some, None, Ok, Err, length}
 use Rattle.media_types.specs.declared.limits.TheConstants.{MAX_NEAR}
 use Rattle.media_types.specs.declared.numbers.FileNo.{FileNo}
 use Rattle.media_types.specs.declared.searching.Searching.{Searching}
@@ -23,45 +23,41 @@ use Rattle.library_machine.specs.Needs.{Need, Met, unmet}
 use Rattle.library_machine.specs.Opening.{after_change}
 use Rattle.library_machine.specs.Records.{Records, Fits}
 use Rattle.library_machine.specs.Searches.{after_search, next_search, risen}
-use Rattle.library_machine.specs.Step.{Outcome, Answered, after, change_of, refused, reply_of, step}
+use Rattle.library_machine.specs.Step.{State, Answered, after_step, change_of, refused, reply_of, step}
 
--- the records after a step
-abbrev pub after_step : Records → Caller → Command → Records
-after_step r caller command = after r (step r caller command)
-
--- a refused command leaves the records as they were
+-- a refused command leaves the state as it was
 abbrev pub RefusalsChangeNothing : Type 0
-RefusalsChangeNothing = (r : Records) (caller : Caller) (command : Command) (why : Refusal) →
-    reply_of (step r caller command) ≡ Err why → after_step r caller command ≡ r
+RefusalsChangeNothing = (s : State) (caller : Caller) (command : Command) (why : Refusal) →
+    reply_of (step s caller command) ≡ Err why → after_step s caller command ≡ s
 
 -- and so does whatever refusal is answered
 abbrev pub RefusedAnswersChangeNothing : Type 0
-RefusedAnswersChangeNothing = (r : Records) (caller : Caller) (command : Command) (why : Refusal) (new : Records) →
-    Answered r (step r caller command) (Err why) new → new ≡ r
+RefusedAnswersChangeNothing = (s : State) (caller : Caller) (command : Command) (why : Refusal) (new : State) →
+    Answered s (step s caller command) (Err why) new → new ≡ s
 
 -- a step has a change exactly where it leaves other records
 abbrev pub ChangesAreTold : Type 0
-ChangesAreTold = (r : Records) (caller : Caller) (command : Command) →
-    (change_of (step r caller command) ≡ None) ↔ (after_step r caller command ≡ r)
+ChangesAreTold = (s : State) (caller : Caller) (command : Command) →
+    (change_of (step s caller command) ≡ None) ↔ ((after_step s caller command).kept ≡ s.kept)
 
 -- the change of a step leads to the records of the step
 abbrev pub ChangesLead : Type 0
-ChangesLead = (r : Records) (caller : Caller) (command : Command) (change : Change) →
-    change_of (step r caller command) ≡ Some change → after_change r change ≡ Some (after_step r caller command)
+ChangesLead = (s : State) (caller : Caller) (command : Command) (change : Change) →
+    change_of (step s caller command) ≡ Some change → after_change s.kept change ≡ Some (after_step s caller command).kept
 
 -- that a change wasn't kept is answered only where the step has one
 pub record WantsChange (why : Refusal) : Type 0 where
-  pub changes : (r : Records) (caller : Caller) (command : Command) (new : Records) →
-      Answered r (step r caller command) (Err why) new → change_of (step r caller command) ≢ None
+  pub changes : (s : State) (caller : Caller) (command : Command) (new : State) →
+      Answered s (step s caller command) (Err why) new → change_of (step s caller command) ≢ None
 
 -- records that fit still fit after a step
 abbrev pub StepsKeepFit : Type 0
-StepsKeepFit = (r : Records) (caller : Caller) (command : Command) → Fits r → Fits (after_step r caller command)
+StepsKeepFit = (s : State) (caller : Caller) (command : Command) → Fits s.kept → Fits (after_step s caller command).kept
 
 -- and after whatever is answered
 abbrev pub AnswersKeepFit : Type 0
-AnswersKeepFit = (r : Records) (caller : Caller) (command : Command) (reply : Reply) (new : Records) →
-    Answered r (step r caller command) reply new → Fits r → Fits new
+AnswersKeepFit = (s : State) (caller : Caller) (command : Command) (reply : Reply) (new : State) →
+    Answered s (step s caller command) reply new → Fits s.kept → Fits new.kept
 
 -- and after a change that is made, where its needs are met and it isn't idle
 abbrev pub ChangesKeepFit : Type 0
@@ -85,8 +81,8 @@ Refuses r (commands.Tend u) why = ⊥
 
 -- exactly so the step refuses
 abbrev pub RefusalsHaveCauses : Type 0
-RefusalsHaveCauses = (r : Records) (caller : Caller) (command : Command) (why : Unmet) →
-    (step r caller command ≡ refused why) ↔ Refuses r command why
+RefusalsHaveCauses = (s : State) (caller : Caller) (command : Command) (why : Unmet) →
+    (step s caller command ≡ refused why) ↔ Refuses s.kept command why
 
 -- By the search some file's searched distance rises, and more pairs are near after it than a library holds.
 abbrev pub FindsTooMany : Records → Searching → Type 0
@@ -94,11 +90,11 @@ FindsTooMany r s = (risen r s ≢ []) × (MAX_NEAR < length (near_pairs (after_s
 
 -- A search of the next files of the queue is refused only where it finds too many near pairs: its files are there.
 abbrev pub JobsLackRoomAlone : Type 0
-JobsLackRoomAlone = (r : Records) (caller : Caller) (n : ℕ) (why : Unmet) →
-    (step r caller (commands.Run (jobs.Search n)) ≡ refused why)
-    ↔ ((why ≡ whys.FullNear) × FindsTooMany r (next_search r n))
+JobsLackRoomAlone = (s : State) (caller : Caller) (n : ℕ) (why : Unmet) →
+    (step s caller (commands.Run (jobs.Search n)) ≡ refused why)
+    ↔ ((why ≡ whys.FullNear) × FindsTooMany s.kept (next_search s.kept n))
 
 -- A live file that is deleted comes back with all that was recorded of it, and all else as it was.
 abbrev pub DeletionsAreTakenBack : Type 0
-DeletionsAreTakenBack = (r : Records) (caller : Caller) (file : FileNo) → is_live r.files file.0 ≡ true →
-    after_step (after_step r caller (commands.Do (changes.Live file false))) caller (commands.Do (changes.Live file true)) ≡ r
+DeletionsAreTakenBack = (s : State) (caller : Caller) (file : FileNo) → is_live s.kept.files file.0 ≡ true →
+    after_step (after_step s caller (commands.Do (changes.Live file false))) caller (commands.Do (changes.Live file true)) ≡ s

@@ -1,6 +1,7 @@
 pub mod Asking
 pub mod Changing
 pub mod Covering
+pub mod Desks
 pub mod Guards
 pub mod Jobs
 pub mod Laws

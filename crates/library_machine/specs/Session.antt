@@ -3,20 +3,24 @@ use Rattle.std.specs.Prelude.{List, [], ◌∷◌}
 use Rattle.media_base.specs.declared.command.Caller.TheVariants as callers
 use Rattle.media_base.specs.declared.command.Command.{Command}
 use Rattle.media_base.specs.Replying.{Reply}
-use Rattle.library_machine.specs.Records.{Records, no_records}
-use Rattle.library_machine.specs.Step.{after, reply_of, step}
+use Rattle.library_machine.specs.Records.{no_records}
+use Rattle.library_machine.specs.Step.{State, after_step, at_opening, reply_of, step}
 
 -- the replies to the commands, in order, where memory never wants
-abbrev pub replies : Records → List Command → List Reply
-replies r [] = []
-replies r (command ∷ commands) =
-    reply_of (step r callers.Console command) ∷ replies (after r (step r callers.Console command)) commands
+abbrev pub replies : State → List Command → List Reply
+replies s [] = []
+replies s (command ∷ commands) =
+    reply_of (step s callers.Console command) ∷ replies (after_step s callers.Console command) commands
 
--- the records after the commands
-abbrev pub records_after : Records → List Command → Records
-records_after r [] = r
-records_after r (command ∷ commands) = records_after (after r (step r callers.Console command)) commands
+-- the state after the commands
+abbrev pub state_after : State → List Command → State
+state_after s [] = s
+state_after s (command ∷ commands) = state_after (after_step s callers.Console command) commands
+
+-- nothing is recorded
+abbrev pub nothing : State
+nothing = at_opening no_records
 
 -- the last replies, to these commands behind others
 abbrev pub replies_behind : List Command → List Command → List Reply
-replies_behind first then = replies (records_after no_records first) then
+replies_behind first then = replies (state_after nothing first) then

@@ -1,31 +1,37 @@
-ghost use Rattle.std.specs.Prelude.{◌≡◌, true, false, [], ◌∷◌};
+ghost use Rattle.std.specs.Prelude.{◌≡◌, true, false, [], ◌∷◌, map};
 ghost use Rattle.media_types.specs.declared.decision.Code.TheVariants.{Alternates, NotRelated, Same};
-ghost use Rattle.media_base.specs.declared.refusal.Unmet.TheVariants.{AlreadyUndone, SameFile, UnknownDecision, UnknownFile};
+ghost use Rattle.media_base.specs.declared.refusal.Unmet.TheVariants.{AlreadyUndone, FullDecisions, FullFiles, FullNear, SameFile, UnknownDecision, UnknownFile};
 ghost use Rattle.media_base.specs.declared.reply.ImportStatus.TheVariants.{New, Known, Deleted};
-ghost use Rattle.library_machine.specs.Records.{no_records};
-ghost use Rattle.library_machine.specs.Session.{replies, replies_behind};
-ghost use Rattle.library_machine.specs.Worked.{decide_of, import_of, import_with, queued, queues, pairs_from, pairs_behind, count_within, counted, listed, search_of, search_next, searched, distance_of, within, better_than, delete_of, undelete_of, changed, rebalance, rebalanced, relations_of, undo_of, imported, decided, undone, grouped, standing, no};
+ghost use Rattle.library_machine.specs.Session.{nothing, replies, replies_behind};
+ghost use Rattle.library_machine.specs.Worked.{decide_of, import_of, import_with, queued, queues, pairs_from, pairs_behind, count_within, counted, listed, search_of, search_next, searched, distance_of, within, better_than, delete_of, undelete_of, changed, rebalance, rebalanced, relations_of, undo_of, imported, decided, undone, grouped, standing, no, refusals_of};
 
 /// Small sessions whose replies can be followed by hand. The call does nothing.
 #[tactic(auto, unfolding(crate::specs::Step::step, crate::specs::Step::admitted, crate::specs::Changing::needs, crate::specs::Changing::is_idle, crate::specs::Changing::effect, crate::specs::Changing::answer_to, crate::specs::Asking::query_needs, crate::specs::Asking::answer, crate::specs::Jobs::worked_out, crate::specs::Jobs::tended, file_records::specs::Searching::queue_of, file_records::specs::Searching::searched, file_records::specs::Searching::rising, file_records::specs::Near::near_at, spare_tables::specs::Pairs::pairs_below, potential_pairs::specs::Potential::potential_at, potential_pairs::specs::Pages::page_of, relation_groups::specs::Relations::relations_at))]
 pub fn worked_rows()
-    ensures a_known_file_keeps_its_number { replies no_records (import_of 10 ∷ import_of 11 ∷ import_of 10 ∷ [])
+    // Each command's, in the order of their tests.
+    ensures refusals_in_order { map refusals_of (import_of 10 ∷ delete_of 0 ∷ undelete_of 0 ∷ better_than 0 1 ∷ undo_of 0 ∷ distance_of 8 ∷ search_of (0 ∷ []) 8 ∷ [])
+        ≡ (FullFiles ∷ []) ∷ (UnknownFile ∷ []) ∷ (UnknownFile ∷ []) ∷ (UnknownFile ∷ UnknownFile ∷ SameFile ∷ FullDecisions ∷ [])
+        ∷ (UnknownDecision ∷ AlreadyUndone ∷ []) ∷ [] ∷ (UnknownFile ∷ FullNear ∷ []) ∷ [] }
+    ensures questions_in_order { map refusals_of (relations_of 0 ∷ pairs_from 10 16 ∷ count_within 8 ∷ queues ∷ [])
+        ≡ (UnknownFile ∷ []) ∷ [] ∷ [] ∷ [] ∷ [] }
+
+    ensures a_known_file_keeps_its_number { replies nothing (import_of 10 ∷ import_of 11 ∷ import_of 10 ∷ [])
         ≡ imported 0 New ∷ imported 1 New ∷ imported 0 Known ∷ [] }
 
-    ensures two_files_and_a_decision { replies no_records (import_of 10 ∷ import_of 11 ∷ better_than 0 1 ∷ relations_of 1 ∷ [])
+    ensures two_files_and_a_decision { replies nothing (import_of 10 ∷ import_of 11 ∷ better_than 0 1 ∷ relations_of 1 ∷ [])
         ≡ imported 0 New ∷ imported 1 New ∷ decided 0 ∷ grouped 0 (0 ∷ 1 ∷ []) ∷ [] }
 
-    ensures one_file_twice { replies no_records (import_of 10 ∷ better_than 0 0 ∷ [])
+    ensures one_file_twice { replies nothing (import_of 10 ∷ better_than 0 0 ∷ [])
         ≡ imported 0 New ∷ no SameFile ∷ [] }
 
     // That the file isn't there is told before that it is named twice.
-    ensures no_such_file_twice { replies no_records (import_of 10 ∷ better_than 5 5 ∷ [])
+    ensures no_such_file_twice { replies nothing (import_of 10 ∷ better_than 5 5 ∷ [])
         ≡ imported 0 New ∷ no UnknownFile ∷ [] }
-    ensures no_such_file { replies no_records (import_of 10 ∷ relations_of 1 ∷ [])
+    ensures no_such_file { replies nothing (import_of 10 ∷ relations_of 1 ∷ [])
         ≡ imported 0 New ∷ no UnknownFile ∷ [] }
 
     // The second decision finds the two files in one group already, and is recorded all the same.
-    ensures no_effect_and_a_number { replies no_records (import_of 10 ∷ import_of 11 ∷ better_than 0 1 ∷ better_than 0 1 ∷ relations_of 0 ∷ [])
+    ensures no_effect_and_a_number { replies nothing (import_of 10 ∷ import_of 11 ∷ better_than 0 1 ∷ better_than 0 1 ∷ relations_of 0 ∷ [])
         ≡ imported 0 New ∷ imported 1 New ∷ decided 0 ∷ decided 1 ∷ grouped 0 (0 ∷ 1 ∷ []) ∷ [] }
 
     ensures three_was_not_king { replies_behind
@@ -85,7 +91,7 @@ pub fn worked_rows()
         (import_with 10 (0 ∷ []) ∷ import_with 11 (1 ∷ []) ∷ import_with 12 (3 ∷ []) ∷ search_next 3 ∷ better_than 0 1 ∷ [])
         (decide_of NotRelated 1 2 ∷ count_within 16 ∷ undo_of 1 ∷ pairs_from 10 16 ∷ [])
         ≡ decided 1 ∷ counted 0 ∷ undone 1 ∷ listed ((0, 2, 1) ∷ []) ∷ [] }
-    ensures known_and_deleted { replies no_records (import_of 10 ∷ import_of 10 ∷ delete_of 0 ∷ import_of 10 ∷ delete_of 0 ∷ undelete_of 0 ∷ import_of 10 ∷ undelete_of 0 ∷ [])
+    ensures known_and_deleted { replies nothing (import_of 10 ∷ import_of 10 ∷ delete_of 0 ∷ import_of 10 ∷ delete_of 0 ∷ undelete_of 0 ∷ import_of 10 ∷ undelete_of 0 ∷ [])
         ≡ imported 0 New ∷ imported 0 Known ∷ changed true ∷ imported 0 Deleted ∷ changed false
         ∷ changed true ∷ imported 0 Known ∷ changed false ∷ [] }
     ensures no_such_file_to_delete { replies_behind (import_of 10 ∷ []) (delete_of 1 ∷ undelete_of 1 ∷ [])

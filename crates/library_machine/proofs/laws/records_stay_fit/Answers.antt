@@ -8,8 +8,8 @@ unfolding pairs_below
 returns-clause-at_first c = search rules
 
 pub returns-clause-after_a_step : goal.returns-clause-after_a_step
-returns-clause-after_a_step c = λ r caller command.
-    (sound c.changes_are_good.ensures.fits c.changes_are_good.ensures.other r caller command).fits
+returns-clause-after_a_step c = λ s caller command.
+    (sound c.changes_are_good.ensures.fits c.changes_are_good.ensures.other s caller command).fits
 
 pub returns-clause-after_an_answer : goal.returns-clause-after_an_answer
 returns-clause-after_an_answer c = answers_keep_fit (returns-clause-after_a_step c)
