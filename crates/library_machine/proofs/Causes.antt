@@ -1,5 +1,5 @@
 -- Exactly why a command is refused: by the kinds of commands, once for all.
-use Rattle.std.proofs.Common.{◌≡◌, ◌≢◌, ◌↔◌, ◌<◌, ◌≤◌, inl, inr, ℕ, Bool, true, false, if◌then◌else◌, Result, Ok, Err, List, [], length, arith, refl, ap, sym, subst, ◌∙◌}
+use Rattle.std.proofs.Common.{◌≡◌, ◌↔◌, inl, inr, Bool, true, false, if◌then◌else◌, Result, Ok, Err, List, [], length, arith, refl, ap, sym, subst, ◌∙◌}
 use Rattle.std.specs.List.{All}
 use Rattle.std.proofs.lemmas.Bool.{cases_lt}
 use Rattle.std.proofs.lemmas.List.Elements.{All-take}
@@ -8,7 +8,6 @@ use Rattle.media_types.specs.declared.numbers.FileNo.{FileNo}
 use Rattle.media_types.specs.declared.searching.Searching.{Searching}
 use Rattle.media_base.specs.declared.change.Change.{Change}
 use Rattle.media_base.specs.declared.change.Change.TheVariants as changes
-use Rattle.media_base.specs.declared.command.Caller.{Caller}
 use Rattle.media_base.specs.declared.command.Caller.TheVariants.{Console}
 use Rattle.media_base.specs.declared.command.Command.{Command}
 use Rattle.media_base.specs.declared.command.Command.TheVariants as commands
@@ -20,13 +19,12 @@ use Rattle.file_records.specs.Near.{near_pairs}
 use Rattle.file_records.specs.Searching.{rising}
 use Rattle.library_machine.specs.Asking.{answer, query_needs}
 use Rattle.library_machine.specs.Changing.{does, is_idle, needs}
-use Rattle.library_machine.specs.Guards.{IsFirstUnmet}
 use Rattle.library_machine.specs.Jobs.{Deed, tells, makes, worked_out}
 use Rattle.library_machine.specs.Laws.{FindsTooMany, JobsLackRoomAlone, Lacks, Refuses, RefusalsHaveCauses}
 use Rattle.library_machine.specs.Needs.{Met, is_met, room_for_near, unmet}
 use Rattle.library_machine.specs.Records.{Records, IsThere}
-use Rattle.library_machine.specs.Searches.{after_search, counts, is_empty, next_search, risen, search_queue}
-use Rattle.library_machine.specs.Step.{Outcome, refused, told, changed, by_change, made, by_answer, by_deed, step_of, admitted, by_caller, step}
+use Rattle.library_machine.specs.Searches.{after_search, counts, is_empty, next_search, search_queue}
+use Rattle.library_machine.specs.Step.{refused, by_change, made, by_answer, by_deed, step_of, admitted, step}
 use Rattle.library_machine.proofs.Below.{NotFound, NoneRises, NoneSearched, QueueIsThere}
 use Rattle.library_machine.proofs.Meeting.{means, first_refuses, none_there}
 

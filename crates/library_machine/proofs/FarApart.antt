@@ -1,6 +1,6 @@
 -- Two files that differ in all bits of their hashes: they aren't near at any distance within which files are
 -- searched. Their distance is too large to be counted out, so it comes from a law.
-use Rattle.std.proofs.Common.{◌≡◌, ◌∙◌, ◌||◌, Bool, true, false, nat_le, if◌then◌else◌, List, [], ◌∷◌, length, map, None, Ok, Err, refl, ap}
+use Rattle.std.proofs.Common.{◌≡◌, ◌∙◌, Bool, true, false, nat_le, if◌then◌else◌, List, [], ◌∷◌, length, map, None, Ok, Err, refl, ap}
 use lib.Count.{ones-ones}
 use Rattle.media_types.specs.declared.limits.TheConstants.{MAX_NEAR}
 use Rattle.media_base.specs.declared.change.Change.TheVariants as changes

@@ -1,5 +1,5 @@
 -- A change that is made leaves records that fit, and others: a lemma for each change.
-use Rattle.std.proofs.Common.{◌≡◌, ◌≢◌, ◌⊎◌, ◌<◌, ◌≤◌, ◌==◌, inl, inr, ℕ, zero, suc, Bool, true, false, not, nat_lt, Option, Some, None, is_some, option_map, List, [], ◌∷◌, ◌++◌, length, length-append, map, slice_get, Ok, arith, refl, sym, ap, subst, ◌∙◌}
+use Rattle.std.proofs.Common.{◌≡◌, ◌≢◌, ◌⊎◌, ◌<◌, ◌≤◌, inl, inr, ℕ, zero, suc, Bool, true, false, not, Option, Some, None, is_some, option_map, List, [], ◌∷◌, ◌++◌, length, length-append, map, slice_get, Ok, arith, refl, sym, ap, ◌∙◌}
 use Rattle.std.specs.Option.{option_map_or}
 use Rattle.std.proofs.lemmas.Bool.{eqb-false, both_ways}
 use Rattle.std.proofs.lemmas.List.{map-append}
@@ -14,7 +14,7 @@ use Rattle.media_types.specs.declared.searching.Searching.{Searching}
 use Rattle.media_base.specs.declared.change.Change.{Change}
 use Rattle.media_base.specs.declared.change.Change.TheVariants as changes
 use Rattle.file_records.specs.declared.file_row.FileRow.{FileRow}
-use Rattle.file_records.specs.Lookup.{IsUnknown, file_with}
+use Rattle.file_records.specs.Lookup.{file_with}
 use Rattle.file_records.specs.Near.{near_pairs}
 use Rattle.file_records.specs.Rows.{row_of}
 use Rattle.decision_book.specs.declared.decision_row.DecisionRow.{DecisionRow}

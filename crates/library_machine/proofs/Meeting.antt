@@ -1,12 +1,11 @@
 -- A test of a need says what its words say, and so for needs in their order: proved once, for all commands.
-use Rattle.std.proofs.Common.{◌≡◌, ◌≢◌, ◌↔◌, ◌⊎◌, ◌<◌, ◌≤◌, ◌==◌, ◌||◌, inl, inr, ℕ, Bool, true, false, not, if◌then◌else◌, nat_lt, nat_le, Option, Some, None, is_some, List, [], ◌∷◌, length, slice_get, Result, Ok, Err, refl, sym, ap, ◌∙◌}
+use Rattle.std.proofs.Common.{◌≡◌, ◌≢◌, ◌↔◌, ◌⊎◌, ◌<◌, ◌≤◌, ◌==◌, ◌||◌, inl, inr, ℕ, Bool, true, false, not, if◌then◌else◌, nat_lt, nat_le, Option, Some, None, is_some, List, [], ◌∷◌, length, slice_get, Ok, Err, refl, sym, ap, ◌∙◌}
 use Rattle.std.specs.Option.{option_map_or}
 use Rattle.std.specs.List.{All, list_all}
 use Rattle.std.proofs.lemmas.Bool.{ltb-true, lt-ltb, leb-true, le-leb, eqb-true, eqb-false, eq-eqb, both_ways, not-true}
 use Rattle.std.proofs.lemmas.List.{nil_from_length}
 use Rattle.std.proofs.lemmas.List.Sums.{AllPass-from_list_all, list_all-from_AllPass}
 use Rattle.std.proofs.lemmas.Option.{same_Some}
-use Rattle.media_types.specs.declared.decision.Decision.{Decision}
 use Rattle.media_types.specs.declared.hash.Sha.{Sha}
 use Rattle.media_types.specs.declared.numbers.DecisionNo.{DecisionNo}
 use Rattle.media_types.specs.declared.numbers.FileNo.{FileNo}
@@ -14,7 +13,7 @@ use Rattle.media_base.specs.declared.refusal.Unmet.{Unmet}
 use Rattle.file_records.specs.Lookup.{file_with}
 use Rattle.decision_book.specs.declared.decision_row.DecisionRow.{DecisionRow}
 use Rattle.library_machine.specs.Guards.{guarded, IsFirstUnmet, AreMet}
-use Rattle.library_machine.specs.Needs.{Need, file_there, files_there, two_files, decision_there, not_undone, room_for_file, room_for_near, room_for_decision, has_file, is_known, is_met, Met}
+use Rattle.library_machine.specs.Needs.{Need, file_there, files_there, two_files, decision_there, not_undone, room_for_file, room_for_near, room_for_decision, has_file, is_met, Met}
 use Rattle.library_machine.specs.Records.{Records, IsThere, IsNew, IsRecorded}
 use Rattle.library_machine.specs.Searches.{is_empty, risen}
 use Rattle.library_machine.proofs.Below.{NotFound}

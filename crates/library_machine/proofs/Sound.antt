@@ -1,6 +1,6 @@
 -- A step tells a change exactly where the records change, the change leads to the same records, and they fit: by the
 -- kinds of commands and of outcomes, once for all commands.
-use Rattle.std.proofs.Common.{◌≡◌, ◌≢◌, ◌↔◌, Bool, true, false, Option, Some, None, Result, Ok, Err, refl, ap, sym, subst}
+use Rattle.std.proofs.Common.{◌≡◌, ◌≢◌, ◌↔◌, Bool, true, false, Some, None, Result, Ok, Err, refl, ap, sym, subst}
 use Rattle.std.proofs.lemmas.Option.{same_Some}
 use Rattle.media_base.specs.declared.change.Change.{Change}
 use Rattle.media_base.specs.declared.command.Caller.{Caller}

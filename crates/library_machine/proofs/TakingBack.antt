@@ -1,5 +1,5 @@
 -- A deletion is taken back.
-use Rattle.std.proofs.Common.{◌≡◌, ◌==◌, ◌<◌, if◌then◌else◌, nat_lt, ℕ, Bool, true, false, not, inl, inr, Option, Some, None, Ok, Err, option_map, List, length, slice_get, refl, arith, ap, subst, sym, ◌∙◌}
+use Rattle.std.proofs.Common.{◌≡◌, ◌==◌, if◌then◌else◌, nat_lt, ℕ, Bool, true, false, not, inl, inr, Some, Ok, Err, option_map, List, length, slice_get, refl, ap, subst, sym, ◌∙◌}
 use Rattle.std.proofs.lemmas.Bool.{lt-ltb, eq-eqb, both_ways}
 use Rattle.std.proofs.lemmas.Option.{slice_get_cases}
 use Rattle.media_types.specs.declared.numbers.FileNo.{FileNo}
@@ -8,7 +8,7 @@ use Rattle.media_base.specs.declared.command.Caller.TheVariants.{Console}
 use Rattle.media_base.specs.declared.refusal.Unmet.TheVariants as whys
 use Rattle.file_records.specs.declared.file_row.FileRow.{FileRow}
 use Rattle.file_records.specs.Living.{is_live, with_live_mark, with_mark}
-use Rattle.library_machine.specs.Changing.{answer_to, effect, is_idle, is_marked, needs}
+use Rattle.library_machine.specs.Changing.{effect, is_idle, is_marked, needs}
 use Rattle.library_machine.specs.Laws.{DeletionsAreTakenBack}
 use Rattle.library_machine.specs.Needs.{has_file}
 use Rattle.library_machine.specs.Records.{Records}

@@ -1,5 +1,5 @@
 -- What holds of each step of the machine.
-use Rattle.std.specs.Prelude.{◌≡◌, ◌≢◌, ◌<◌, ◌↔◌, ℕ, Bool, true, false, List, [], Some, None, Ok, Err, length}
+use Rattle.std.specs.Prelude.{◌≡◌, ◌≢◌, ◌<◌, ◌↔◌, ℕ, true, false, List, [], Some, None, Ok, Err, length}
 use Rattle.media_types.specs.declared.limits.TheConstants.{MAX_NEAR}
 use Rattle.media_types.specs.declared.numbers.FileNo.{FileNo}
 use Rattle.media_types.specs.declared.searching.Searching.{Searching}
@@ -23,11 +23,7 @@ use Rattle.library_machine.specs.Needs.{Need, Met, unmet}
 use Rattle.library_machine.specs.Opening.{after_change}
 use Rattle.library_machine.specs.Records.{Records, Fits}
 use Rattle.library_machine.specs.Searches.{after_search, next_search, risen}
-use Rattle.library_machine.specs.Step.{Outcome, Answered, after, change_of, refused, reply_of, step}
-
--- the records after a step
-abbrev pub after_step : Records → Caller → Command → Records
-after_step r caller command = after r (step r caller command)
+use Rattle.library_machine.specs.Step.{Answered, after_step, change_of, refused, reply_of, step}
 
 -- a refused command leaves the records as they were
 abbrev pub RefusalsChangeNothing : Type 0

@@ -72,6 +72,10 @@ by_caller r command (Err why) = refused why
 unfoldable pub step : Records → Caller → Command → Outcome
 step r caller command = by_caller r command (admitted caller command)
 
+-- the records after a step
+abbrev pub after_step : Records → Caller → Command → Records
+after_step r caller command = after r (step r caller command)
+
 -- What may be answered: the step's reply, with the step's records after it, or want of memory; or, where
 -- the records would change, that there is no room to keep the change, or that it wasn't kept. But for the
 -- step's own reply nothing changes.

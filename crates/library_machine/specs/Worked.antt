@@ -14,6 +14,9 @@ use Rattle.media_base.specs.declared.refusal.Unmet.{Unmet}
 use Rattle.media_base.specs.declared.reply.Answer.TheVariants as answers
 use Rattle.media_base.specs.declared.reply.ImportStatus.{ImportStatus}
 use Rattle.media_base.specs.Replying.{Reply}
+use Rattle.library_machine.specs.Asking.{query_needs}
+use Rattle.library_machine.specs.Changing.{needs}
+use Rattle.library_machine.specs.Needs.{unmet}
 
 abbrev pub file : ℕ → FileNo
 file k = record { 0 = k }
@@ -99,6 +102,13 @@ undelete_of k = Do (changes.Live (file k) true)
 -- the question how file k is related
 abbrev pub relations_of : ℕ → Command
 relations_of k = Ask (queries.Relations (file k))
+
+-- the refusals of a command in the order of their tests, but for a job, whose change has them
+abbrev pub refusals_of : Command → List Unmet
+refusals_of (Ask q) = map unmet (query_needs q)
+refusals_of (Do c) = map unmet (needs c)
+refusals_of (Run j) = []
+refusals_of (Tend u) = []
 
 -- the refusal for this reason
 abbrev pub no : Unmet → Reply
