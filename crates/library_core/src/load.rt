@@ -154,8 +154,9 @@ impl<K: Keeper> Library<K> {
         ensures bad { (readings : Readings) (n : ℕ) → K.gives keeper ≡ Some readings
             → IfErr result (λ fail. fail.0 ≡ LoadFail.BadStore n → opened readings ≡ Err n) }
 
-        // Each other fault has its cause.
+        // Each other fault has its cause, and no store of another is told as bad.
         ensures own { IfOk result (λ library. K.alien keeper ≢ Some true) }
+        ensures bad_own { (n : ℕ) → IfErr result (λ fail. fail.0 ≡ LoadFail.BadStore n → K.alien keeper ≢ Some true) }
         ensures alien { IfErr result (λ fail. fail.0 ≡ LoadFail.AlienStore → K.alien keeper ≢ Some false) }
         ensures later { IfOk result (λ library. K.faults keeper ≤ K.faults library.keeper) }
         ensures later_fail { IfErr result (λ fail. K.faults keeper ≤ K.faults fail.1) }

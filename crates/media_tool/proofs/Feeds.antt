@@ -7,7 +7,7 @@ use Rattle.media_types.specs.declared.fault.Failed.{Failed}
 use Rattle.std.proofs.lemmas.List.{append-nil}
 use Rattle.std.proofs.lemmas.List.Concat.{flat_map-append}
 use Rattle.media_base.specs.Transfer.{Took, TookFront}
-use Rattle.media_base.specs.TransferLaws.{took_none, took_more, front_of, front_of_none, front_of_more, front_more}
+use Rattle.media_base.specs.TransferLaws.{took_none, took_more, front_of, front_of_more, front_more}
 use Rattle.media_base.specs.declared.reply.Reply.{Reply}
 use Rattle.reply_text.specs.ReplyText.{reply_line}
 use Rattle.media_tool.specs.Lines.{HasNoFeed, with_feed, Cut, with_rest}
@@ -68,19 +68,6 @@ fed_more r m s line a mid b rest t u v p q = record {
 }
 
 -- ---- stopping
-
--- it stopped before anything of the piece was answered
-pub stopped_here : (r : State) (line piece : List ℕ) (taken : Option (List ℕ)) → Stopped r line piece r taken taken
-stopped_here r line piece taken =
-    let some = some_cut (line ++ piece) in
-    record {
-      lines = some.0;
-      rest = some.1;
-      replies = all_no_memory (with_rest some.0 some.1);
-      cut = some.2;
-      run = run_no_memory r (with_rest some.0 some.1);
-      took = front_of_none taken (text_of (all_no_memory (with_rest some.0 some.1)));
-    }
 
 -- it stopped at the reply to a line
 pub stopped_line : (r m : State) (line front more : List ℕ) (reply : Reply) (old new : Option (List ℕ)) → HasNoFeed (line ++ front) → LineAnswered r (line ++ front) reply m → TookFront old new (reply_line reply) → Stopped r line (with_feed front ++ more) m old new

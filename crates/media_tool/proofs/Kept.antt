@@ -13,13 +13,6 @@ use Rattle.media_tool.specs.Run.{LineAnswered, as_command, as_refused, as_no_mem
 use Rattle.media_tool.proofs.Cuts.{AllByRecursion-append}
 use Rattle.media_tool.proofs.Feeds.{FedSoFar, fed_kept, so_far_none, so_far_more, so_far_all, so_far_stopped}
 
--- a test that says whether the line is empty
-pub nil_from_test : (line : List ℕ) (len : ℕ) (test : Bool) → len ≡ length line → test ≡ eqb len 0 → test ≡ true → line ≡ []
-nil_from_test line len test same is yes' = nil_from_length line (sym same ∙ eqb-true len 0 (sym is ∙ yes'))
-
-pub some_from_test : (line : List ℕ) (len : ℕ) (test : Bool) → len ≡ length line → test ≡ eqb len 0 → test ≡ false → line ≡ [] → ⊥
-some_from_test line len test same is no' nil = eqb-false len 0 (sym is ∙ no') (same ∙ ap length nil)
-
 -- ---- fronts
 
 -- a front of a front and more bytes is the front of all
@@ -42,10 +35,6 @@ take_room zero count (byte ∷ old) bytes fits is = absurd (omega (arith, fits))
 take_room (suc n) count (byte ∷ old) bytes fits is = ap (λ (rest : List ℕ). byte ∷ rest) (take_room n count old bytes (omega (arith, fits)) (omega (arith, is)))
 
 -- ---- what is kept
-
-kept_fits : (line : List ℕ) → length (kept_of line) ≤ MAX_LINE + 1
-unfolding kept_of
-kept_fits line = omega (arith, length-take (MAX_LINE + 1) line)
 
 kept_whole : (line : List ℕ) → length line ≤ MAX_LINE + 1 → kept_of line ≡ line
 unfolding kept_of
@@ -70,9 +59,6 @@ nil_kept line e = nil_from_length line (omega (arith, length-take (MAX_LINE + 1)
 pub kept_room : (old bytes : List ℕ) (count : ℕ) → length old ≤ MAX_LINE + 1 → count ≡ min (MAX_LINE + 1 - length old) (length bytes) → kept_of (old ++ bytes) ≡ old ++ take count bytes
 unfolding kept_of
 kept_room old bytes count fits is = take_room (MAX_LINE + 1) count old bytes fits is
-
-pub keeps_fits : (kept line : List ℕ) → Keeps kept line → length kept ≤ MAX_LINE + 1
-keeps_fits kept line keeps = subst (λ (bytes : List ℕ). length bytes ≤ MAX_LINE + 1) (sym keeps.front) (kept_fits line)
 
 -- nothing is kept of an empty line, and of no other
 pub keeps_nothing : (kept : List ℕ) → kept ≡ [] → Keeps kept []

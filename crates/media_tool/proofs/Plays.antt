@@ -15,7 +15,7 @@ use Rattle.library_core.specs.declared.load_fail.LoadFail.{LoadFail}
 use Rattle.library_core.specs.declared.load_fail.LoadFail.TheVariants as fails
 use Rattle.media_tool.specs.Session.{AnswersNothing, HasOpened, Played, Plays, PlaysFrom, load_status}
 use Rattle.media_tool.specs.declared.play.TheConstants.{MAX_INPUT}
-use Rattle.media_tool.proofs.Feeds.{fed_nothing, fed_more, ends_early, ends_stopped, stopped_after, stopped_here}
+use Rattle.media_tool.proofs.Feeds.{fed_nothing, fed_more, ends_early, ends_stopped, stopped_after}
 use Rattle.media_tool.proofs.Kept.{keeps_nothing}
 use Rattle.media_tool.proofs.Runs.{run_later}
 
@@ -76,24 +76,14 @@ plays_read_fault o room m kept left now next t u p same = record {
 }
 
 -- it stopped in a piece
-stops_in_piece : (status : Status) (o : State) (room count : ℕ) (m s : State) (kept chunk : List ℕ) (left now next t u v : Option (List ℕ)) → (status ≡ statuses.InputTooLong → ⊥) → count ≤ room
-    → (p : PlayedSoFar o room m kept left now t u) → GaveFront now next chunk count → Played status o s (p.given ++ take count chunk) t v → PlaysFrom o s status left next t v
-stops_in_piece status o room count m s kept chunk left now next t u v other within p read played = record {
-  given = p.given ++ take count chunk;
-  gave = gave_more left now next p.given (take count chunk) p.gave read.gave;
-  limit = within_limit status (p.given ++ take count chunk) other (omega (arith, p.counted, length-append p.given (take count chunk), length-take-le count chunk read.fits));
-  played = played;
-}
-
 pub plays_write_fault : (o : State) (room count : ℕ) (m s : State) (kept chunk : List ℕ) (left now next t u v : Option (List ℕ)) → count ≤ room → PlayedSoFar o room m kept left now t u → GaveFront now next chunk count
     → ((line : List ℕ) → Keeps kept line → Stopped m line (take count chunk) s u v) → PlaysFrom o s statuses.WriteFault left next t v
-plays_write_fault o room count m s kept chunk left now next t u v within p read stopped =
-    stops_in_piece statuses.WriteFault o room count m s kept chunk left now next t u v (λ is. cc) within p read (ends_stopped o s (p.given ++ take count chunk) t v (stopped_piece o p.given (take count chunk) kept m s t u v p.fed stopped))
-
-pub plays_no_memory : (o : State) (room count : ℕ) (m s : State) (kept chunk : List ℕ) (left now next t u v : Option (List ℕ)) → count ≤ room → PlayedSoFar o room m kept left now t u → GaveFront now next chunk count
-    → ((line : List ℕ) → Keeps kept line → Stopped m line (take count chunk) s u v) → PlaysFrom o s statuses.NoMemory left next t v
-plays_no_memory o room count m s kept chunk left now next t u v within p read stopped =
-    stops_in_piece statuses.NoMemory o room count m s kept chunk left now next t u v (λ is. cc) within p read (ends_stopped o s (p.given ++ take count chunk) t v (stopped_piece o p.given (take count chunk) kept m s t u v p.fed stopped))
+plays_write_fault o room count m s kept chunk left now next t u v within p read stopped = record {
+  given = p.given ++ take count chunk;
+  gave = gave_more left now next p.given (take count chunk) p.gave read.gave;
+  limit = within_limit statuses.WriteFault (p.given ++ take count chunk) (λ is. cc) (omega (arith, p.counted, length-append p.given (take count chunk), length-take-le count chunk read.fits));
+  played = ends_stopped o s (p.given ++ take count chunk) t v (stopped_piece o p.given (take count chunk) kept m s t u v p.fed stopped);
+}
 
 -- as many bytes came as a session takes, and then more
 pub plays_too_long : (o : State) (count : ℕ) (m : State) (kept chunk : List ℕ) (left now next t u : Option (List ℕ)) → 0 < count → PlayedSoFar o 0 m kept left now t u → GaveFront now next chunk count → PlaysFrom o m statuses.InputTooLong left next t u
@@ -104,15 +94,6 @@ plays_too_long o count m kept chunk left now next t u some p read = record {
   played = record { front = p.given; more = take count chunk; split = refl; limit = omega (arith, p.counted); answers = ends_early o p.given m p.fed.rest t u p.fed.fed };
 }
 
--- nothing was given or taken, for want of memory
-pub plays_nothing : (o : State) (left taken : Option (List ℕ)) → PlaysFrom o o statuses.NoMemory left left taken taken
-plays_nothing o left taken = record {
-  given = [];
-  gave = gave_none left;
-  limit = within_limit statuses.NoMemory [] (λ is. cc) (omega arith);
-  played = ends_stopped o o [] taken taken (stopped_here o [] [] taken);
-}
-
 same_later : (o s : State) → s ≡ o → o.faults ≤ s.faults
 same_later o s same = let e : s.faults ≡ o.faults = ap (λ (one : State). one.faults) same in omega arith
 
@@ -121,7 +102,7 @@ played_later : (status : Status) (o s : State) (given : List ℕ) (t u : Option 
 played_later statuses.Done o s given t u p = run_later o s _ p.replies p.run
 played_later statuses.ReadFault o s given t u p = run_later o s _ p.replies p.run
 played_later statuses.WriteFault o s given t u p = run_later o s _ p.replies p.run
-played_later statuses.NoMemory o s given t u p = run_later o s _ p.replies p.run
+played_later statuses.NoMemory o s given t u p = same_later o s p.same
 played_later statuses.InputTooLong o s given t u p = run_later o s _ p.answers.replies p.answers.run
 played_later statuses.Usage o s given t u p = same_later o s p.same
 played_later statuses.StoreFault o s given t u p = same_later o s p.same
@@ -140,13 +121,29 @@ at_rest kept faults = record { records = no_records; kept = kept; faults = fault
 nothing : (o : State) (taken : Option (List ℕ)) → AnswersNothing o o [] taken taken
 nothing o taken = record { none = refl; same = refl; took = refl }
 
+nothing_played : (status : Status) (o : State) (taken : Option (List ℕ)) → (HasOpened status → ⊥) → Played status o o [] taken taken
+nothing_played statuses.Done o taken unopened = absurd (unopened tt)
+nothing_played statuses.ReadFault o taken unopened = absurd (unopened tt)
+nothing_played statuses.WriteFault o taken unopened = absurd (unopened tt)
+nothing_played statuses.InputTooLong o taken unopened = absurd (unopened tt)
+nothing_played statuses.Usage o taken unopened = nothing o taken
+nothing_played statuses.NoMemory o taken unopened = nothing o taken
+nothing_played statuses.StoreFault o taken unopened = nothing o taken
+nothing_played (statuses.BadStore n) o taken unopened = nothing o taken
+nothing_played statuses.AlienStore o taken unopened = nothing o taken
+
 -- nothing was given, answered or taken
-never_opened : (status : Status) (alien : Option Bool) (gives kept_old kept_new : Option Readings) (faults_old faults_new : ℕ) (left taken : Option (List ℕ)) → (status ≡ statuses.InputTooLong → ⊥) → (HasOpened status [] → ⊥)
-    → Played status (at_rest kept_old faults_old) (at_rest kept_old faults_old) [] taken taken → kept_new ≡ kept_old → faults_old ≤ faults_new → Plays alien gives kept_old kept_new faults_old faults_new status left left taken taken
-never_opened status alien gives kept_old kept_new faults_old faults_new left taken other unopened played same later = record {
+pub plays_unopened : (status : Status) (alien : Option Bool) (gives kept_old kept_new : Option Readings) (faults_old faults_new : ℕ) (left taken : Option (List ℕ)) → (HasOpened status → ⊥) → kept_new ≡ kept_old → faults_old ≤ faults_new
+    → Plays alien gives kept_old kept_new faults_old faults_new status left left taken taken
+plays_unopened status alien gives kept_old kept_new faults_old faults_new left taken unopened same later = record {
   opening = at_rest kept_old faults_old;
   after = at_rest kept_old faults_old;
-  session = record { given = []; gave = gave_none left; limit = within_limit status [] other (omega arith); played = played };
+  session = record {
+    given = [];
+    gave = gave_none left;
+    limit = within_limit status [] (λ is. unopened (subst HasOpened (sym is) tt)) (omega arith);
+    played = nothing_played status (at_rest kept_old faults_old) taken unopened;
+  };
   own = λ opened. absurd (unopened opened);
   opens = λ opened. absurd (unopened opened);
   reopens = λ opened. absurd (unopened opened);
@@ -156,18 +153,8 @@ never_opened status alien gives kept_old kept_new faults_old faults_new left tak
   faults_last = later;
 }
 
-pub plays_usage : (alien : Option Bool) (gives kept : Option Readings) (faults : ℕ) (left taken : Option (List ℕ)) → Plays alien gives kept kept faults faults statuses.Usage left left taken taken
-plays_usage alien gives kept faults left taken =
-    never_opened statuses.Usage alien gives kept kept faults faults left taken (λ is. cc) (λ opened. opened) (nothing (at_rest kept faults) taken) refl (omega arith)
-
-pub plays_unopened : (fail : LoadFail) (alien : Option Bool) (gives kept_old kept_new : Option Readings) (faults_old faults_new : ℕ) (left taken : Option (List ℕ)) → kept_new ≡ kept_old → faults_old ≤ faults_new
-    → Plays alien gives kept_old kept_new faults_old faults_new (load_status fail) left left taken taken
-plays_unopened fails.StoreFault alien gives kept_old kept_new faults_old faults_new left taken same later =
-    never_opened statuses.StoreFault alien gives kept_old kept_new faults_old faults_new left taken (λ is. cc) (λ opened. opened) (nothing (at_rest kept_old faults_old) taken) same later
-plays_unopened fails.NoMemory alien gives kept_old kept_new faults_old faults_new left taken same later =
-    let o = at_rest kept_old faults_old in
-    never_opened statuses.NoMemory alien gives kept_old kept_new faults_old faults_new left taken (λ is. cc) (λ opened. opened refl) (ends_stopped o o [] taken taken (stopped_here o [] [] taken)) same later
-plays_unopened (fails.BadStore n) alien gives kept_old kept_new faults_old faults_new left taken same later =
-    never_opened (statuses.BadStore n) alien gives kept_old kept_new faults_old faults_new left taken (λ is. cc) (λ opened. opened) (nothing (at_rest kept_old faults_old) taken) same later
-plays_unopened fails.AlienStore alien gives kept_old kept_new faults_old faults_new left taken same later =
-    never_opened statuses.AlienStore alien gives kept_old kept_new faults_old faults_new left taken (λ is. cc) (λ opened. opened) (nothing (at_rest kept_old faults_old) taken) same later
+pub load_unopened : (fail : LoadFail) → HasOpened (load_status fail) → ⊥
+load_unopened fails.StoreFault opened = opened
+load_unopened fails.NoMemory opened = opened
+load_unopened (fails.BadStore n) opened = opened
+load_unopened fails.AlienStore opened = opened

@@ -53,7 +53,7 @@ abbrev pub Played : Status → State → State → List ℕ → Option (List ℕ
 Played statuses.Done opening after given old new = AnswersAll opening after given old new
 Played statuses.ReadFault opening after given old new = AnswersEnded opening after given old new
 Played statuses.WriteFault opening after given old new = AnswersFront opening after given old new
-Played statuses.NoMemory opening after given old new = AnswersFront opening after given old new
+Played statuses.NoMemory opening after given old new = AnswersNothing opening after given old new
 Played statuses.InputTooLong opening after given old new = AnswersWithin opening after given old new
 Played statuses.Usage opening after given old new = AnswersNothing opening after given old new
 Played statuses.StoreFault opening after given old new = AnswersNothing opening after given old new
@@ -68,18 +68,17 @@ pub record PlaysFrom (opening after : State) (status : Status) (left_old left_ne
   pub limit : (status ≡ statuses.InputTooLong) ↔ (MAX_INPUT < length given)
   pub played : Played status opening after given taken_old taken_new
 
--- A session whose library opened ends so.
-abbrev pub HasRun : Status → Type 0
-HasRun statuses.Usage = ⊥
-HasRun statuses.StoreFault = ⊥
-HasRun (statuses.BadStore n) = ⊥
-HasRun statuses.AlienStore = ⊥
-HasRun status = Unit {0}
-
--- The library opened: at each of these ends, but where memory ran out only if bytes were given.
-abbrev pub HasOpened : Status → List ℕ → Type 0
-HasOpened statuses.NoMemory given = given ≢ []
-HasOpened status given = HasRun status
+-- The library opened: its session ends so, and no other.
+abbrev pub HasOpened : Status → Type 0
+HasOpened statuses.Done = Unit {0}
+HasOpened statuses.ReadFault = Unit {0}
+HasOpened statuses.WriteFault = Unit {0}
+HasOpened statuses.InputTooLong = Unit {0}
+HasOpened statuses.Usage = ⊥
+HasOpened statuses.NoMemory = ⊥
+HasOpened statuses.StoreFault = ⊥
+HasOpened (statuses.BadStore n) = ⊥
+HasOpened statuses.AlienStore = ⊥
 
 -- A session over a keeper. Where the library opens, it begins with the records that the keeper's changes open,
 -- and the keeper then keeps what the replies say: its changes open the records that the session ends with.
@@ -87,9 +86,9 @@ pub record Plays (alien : Option Bool) (gives kept_old kept_new : Option Reading
   pub opening : State
   pub after : State
   pub session : PlaysFrom opening after status left_old left_new taken_old taken_new
-  pub own : HasOpened status session.given → alien ≢ Some true
-  pub opens : HasOpened status session.given → (readings : Readings) → gives ≡ Some readings → opened readings ≡ Ok opening.records
-  pub reopens : HasOpened status session.given → (readings : Readings) → kept_new ≡ Some readings → opened readings ≡ Ok after.records
+  pub own : HasOpened status → alien ≢ Some true
+  pub opens : HasOpened status → (readings : Readings) → gives ≡ Some readings → opened readings ≡ Ok opening.records
+  pub reopens : HasOpened status → (readings : Readings) → kept_new ≡ Some readings → opened readings ≡ Ok after.records
   pub kept_first : opening.kept ≡ kept_old
   pub kept_last : kept_new ≡ after.kept
   pub faults_first : faults_old ≤ opening.faults

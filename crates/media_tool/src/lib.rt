@@ -1,6 +1,7 @@
 //! The tool: a session from bytes to bytes.
 #![tactic(auto)]
 
+mod kept_line;
 mod laws;
 mod lines;
 mod play;

@@ -1,14 +1,15 @@
-ghost use Rattle.std.specs.Prelude.{◌≡◌, ◌≢◌, ◌<◌, ◌≤◌, ℕ, [], length, false, Some, Err, IfOk, MatchResult};
+ghost use Rattle.std.specs.Prelude.{◌≡◌, ◌≢◌, ◌<◌, ◌≤◌, ℕ, [], length, true, false, Some, Err, IfOk, MatchResult};
 ghost use Rattle.std.specs.Io.KnownBytes.{IsAtEnd};
 ghost use Rattle.library_machine.specs.Changes.{opened};
 ghost use Rattle.media_types.specs.Cause.{HasCause, Rose, failed};
 ghost use Rattle.media_base.specs.Keeping.{Readings};
 ghost use Rattle.media_base.specs.Transfer.{GaveFront};
 ghost use Rattle.media_tool.specs.Run.{state_of};
-ghost use Rattle.media_tool.specs.Session.{HasRun, Plays, PlaysFrom, load_status};
+ghost use Rattle.media_tool.specs.Session.{HasOpened, Plays, PlaysFrom, load_status};
 ghost use Rattle.media_tool.specs.declared.play.TheConstants.{PIECE};
 
-use crate::session::{Session, Stop};
+use crate::kept_line::KeptLine;
+use crate::session::Session;
 use library_core::{Library, LoadFail};
 use media_base::{Failed, Keeper, Sink, Source, Status, Steps};
 use std::alloc::Global;
@@ -41,13 +42,13 @@ fn play_pieces<S: Source, W: Sink, K: Keeper, L: Ledger>(
     sink: &mut W,
     steps: &mut Steps<L>,
 ) -> Status
-    requires line { session.old.line.items ≡ [] }
+    requires line { session.old.line ≡ [] }
     requires chunk { length chunk.old ≡ PIECE }
     ensures plays { PlaysFrom (state_of K.kept K.faults session.old.library)
         (state_of K.kept K.faults session.new.library)
         result (S.left source.old) (S.left source.new) (W.taken sink.old) (W.taken sink.new) }
     ensures done { result ≡ Status.Done → IsAtEnd (S.left source.new) }
-    ensures ran { HasRun result }
+    ensures ran { HasOpened result }
     ensures later_read { S.faults source.old ≤ S.faults source.new }
     ensures later_write { W.faults sink.old ≤ W.faults sink.new }
     ensures read { result ≡ Status.ReadFault → Rose (S.faults source.old) (S.faults source.new) }
@@ -60,8 +61,7 @@ fn play_pieces<S: Source, W: Sink, K: Keeper, L: Ledger>(
             Ok(count) => {
                 match session.feed(alloc, &chunk[..count], sink, steps) {
                     Ok(()) => {}
-                    Err(Stop::WriteFault) => return Status::WriteFault,
-                    Err(Stop::NoMemory) => return Status::NoMemory,
+                    Err(_) => return Status::WriteFault,
                 }
                 room -= count;
             }
@@ -72,31 +72,6 @@ fn play_pieces<S: Source, W: Sink, K: Keeper, L: Ledger>(
         Ok(0) => session.finish(alloc, sink, steps),
         Ok(_) => Status::InputTooLong,
         Err(_) => Status::ReadFault,
-    }
-}
-
-// Answers the lines of the source, in a session that has answered none yet.
-fn play_session<S: Source, W: Sink, K: Keeper, L: Ledger>(
-    alloc: Global,
-    session: &mut Session<K>,
-    source: &mut S,
-    sink: &mut W,
-    steps: &mut Steps<L>,
-) -> Status
-    requires { session.old.line.items ≡ [] }
-    ensures plays { PlaysFrom (state_of K.kept K.faults session.old.library)
-        (state_of K.kept K.faults session.new.library)
-        result (S.left source.old) (S.left source.new) (W.taken sink.old) (W.taken sink.new) }
-    ensures done { result ≡ Status.Done → IsAtEnd (S.left source.new) }
-    ensures ran { HasRun result }
-    ensures later_read { S.faults source.old ≤ S.faults source.new }
-    ensures later_write { W.faults sink.old ≤ W.faults sink.new }
-    ensures read { result ≡ Status.ReadFault → Rose (S.faults source.old) (S.faults source.new) }
-    ensures write { result ≡ Status.WriteFault → Rose (W.faults sink.old) (W.faults sink.new) }
-{
-    match vec![in alloc; 0; PIECE] {
-        Ok(mut chunk) => play_pieces(alloc, session, &mut chunk, source, sink, steps),
-        Err(_) => Status::NoMemory,
     }
 }
 
@@ -112,7 +87,8 @@ fn status_of(fail: LoadFail) -> Status
     }
 }
 
-/// Opens a library over the keeper and answers the lines of the source. The keeper comes back.
+/// Opens a library over the keeper and answers the lines of the source. The keeper comes back. What a session
+/// needs for the bytes of its lines is taken first.
 pub fn play<S: Source, W: Sink, K: Keeper, L: Ledger>(
     alloc: Global,
     source: &mut S,
@@ -125,6 +101,7 @@ pub fn play<S: Source, W: Sink, K: Keeper, L: Ledger>(
         result.0 (S.left source.old) (S.left source.new) (W.taken sink.old) (W.taken sink.new) }
     ensures done { result.0 ≡ Status.Done → IsAtEnd (S.left source.new) }
     ensures ran { result.0 ≢ Status.Usage }
+    ensures unread { (HasOpened result.0 → ⊥) → (source.new ≡ source.old) × (sink.new ≡ sink.old) }
     ensures later_read { S.faults source.old ≤ S.faults source.new }
     ensures later_write { W.faults sink.old ≤ W.faults sink.new }
     ensures later_store { K.faults keeper ≤ K.faults result.1 }
@@ -133,12 +110,19 @@ pub fn play<S: Source, W: Sink, K: Keeper, L: Ledger>(
     ensures store { result.0 ≡ Status.StoreFault → Rose (K.faults keeper) (K.faults result.1) }
     ensures bad { (readings : Readings) (n : ℕ) → K.gives keeper ≡ Some readings
         → result.0 ≡ Status.BadStore n → opened readings ≡ Err n }
+    ensures bad_own { (n : ℕ) → result.0 ≡ Status.BadStore n → K.alien keeper ≢ Some true }
     ensures alien { result.0 ≡ Status.AlienStore → K.alien keeper ≢ Some false }
 {
+    let Ok(mut chunk) = vec![in alloc; 0; PIECE] else {
+        return (Status::NoMemory, keeper);
+    };
+    let Ok(line) = KeptLine::new(alloc) else {
+        return (Status::NoMemory, keeper);
+    };
     match Library::load(alloc, keeper, steps) {
         Ok(library) => {
-            let mut session = Session::new(alloc, library);
-            let status = play_session(alloc, &mut session, source, sink, steps);
+            let mut session = Session::new(library, line);
+            let status = play_pieces(alloc, &mut session, &mut chunk, source, sink, steps);
             (status, session.library.release())
         }
         Err((fail, keeper)) => (status_of(fail), keeper),

@@ -1,9 +1,9 @@
-ghost use Rattle.std.specs.Prelude.{◌≡◌, ◌≢◌, ◌≤◌, ◌↔◌, ℕ, map, string_bytes, IsTrue, false, Some, Err};
+ghost use Rattle.std.specs.Prelude.{◌≡◌, ◌≢◌, ◌≤◌, ◌↔◌, ℕ, map, string_bytes, IsTrue, true, false, Some, Err};
 ghost use Rattle.std.specs.Io.KnownBytes.{IsAtEnd};
 ghost use Rattle.media_types.specs.Cause.{Rose};
 ghost use Rattle.media_base.specs.Keeping.{Readings};
 ghost use Rattle.library_machine.specs.Changes.{opened};
-ghost use Rattle.media_tool.specs.Session.{Plays};
+ghost use Rattle.media_tool.specs.Session.{HasOpened, Plays};
 ghost use Rattle.media_tool.specs.Words.{play_words};
 
 use crate::play::play;
@@ -36,6 +36,9 @@ pub fn run<S: Source, W: Sink, K: Keeper, L: Ledger>(
         result.0 (S.left source.old) (S.left source.new) (W.taken sink.old) (W.taken sink.new) }
     ensures done { result.0 ≡ Status.Done → IsAtEnd (S.left source.new) }
 
+    // Where no library opened, nothing is read or written.
+    ensures unread { (HasOpened result.0 → ⊥) → (source.new ≡ source.old) × (sink.new ≡ sink.old) }
+
     // Each other status has its cause.
     ensures usage { (result.0 ≡ Status.Usage) ↔ (map string_bytes words.now ≢ play_words) }
     ensures untouched { result.0 ≡ Status.Usage
@@ -48,6 +51,7 @@ pub fn run<S: Source, W: Sink, K: Keeper, L: Ledger>(
     ensures store { result.0 ≡ Status.StoreFault → Rose (K.faults keeper) (K.faults result.1) }
     ensures bad { (readings : Readings) (n : ℕ) → K.gives keeper ≡ Some readings
         → result.0 ≡ Status.BadStore n → opened readings ≡ Err n }
+    ensures bad_own { (n : ℕ) → result.0 ≡ Status.BadStore n → K.alien keeper ≢ Some true }
     ensures alien { result.0 ≡ Status.AlienStore → K.alien keeper ≢ Some false }
 {
     if is_play(words) {

@@ -1,58 +1,25 @@
-ghost use Rattle.std.specs.Prelude.{◌≡◌, ◌+◌, ◌≤◌, ◌⊎◌, ℕ, List, [], ◌++◌, length, Option, OnOk, OnErr};
+ghost use Rattle.std.specs.Prelude.{◌≡◌, ◌≤◌, ◌⊎◌, ℕ, List, [], ◌++◌, Option, OnOk, OnErr};
 ghost use Rattle.media_types.specs.Cause.{HasCause, Rose, failed};
-ghost use Rattle.command_text.specs.declared.request.TheConstants.{MAX_LINE};
 ghost use Rattle.media_tool.specs.Feeding.{Fed, FedKept, LineSent, Stopped};
 ghost use Rattle.media_tool.specs.Kept.{Keeps, kept_of};
 ghost use Rattle.media_tool.specs.Lines.{HasNoFeed, with_feed};
 ghost use Rattle.media_tool.specs.Run.{LineAnswered, State, state_of};
 ghost use Rattle.media_tool.specs.Session.{Played};
 
+use crate::kept_line::KeptLine;
 use crate::lines::split_line;
-use command_text::{MAX_LINE, long_line_laws, read_line};
+use command_text::{long_line_laws, read_line};
 use library_core::Library;
-use media_base::{Caller, Failed, Keeper, NoMemory, Reply, Sink, Status, Steps};
+use media_base::{Caller, Failed, Keeper, Reply, Sink, Status, Steps};
 use reply_text::write_reply_line;
 use std::alloc::Global;
 use std::sync::ledger::Ledger;
-
-// How many bytes a session keeps of a line: one more than a line may have.
-const MAX_KEPT: usize = MAX_LINE + 1;
-
-/// Why a session stopped within its input.
-#[derive(Clone, Copy, Debug, PartialEq, Eq)]
-pub enum Stop {
-    WriteFault,
-    NoMemory,
-}
-
-impl From<Failed> for Stop {
-    ghost use Rattle.std.specs.Prelude.{◌≡◌};
-    ghost use Rattle.media_tool.specs.declared.session.Stop.TheVariants as stops;
-
-    ghost from_gives = { λ _ stop. stop ≡ stops.WriteFault };
-
-    fn from(_failed: Failed) -> Stop {
-        Stop::WriteFault
-    }
-}
-
-impl From<NoMemory> for Stop {
-    ghost use Rattle.std.specs.Prelude.{◌≡◌};
-    ghost use Rattle.media_tool.specs.declared.session.Stop.TheVariants as stops;
-
-    ghost from_gives = { λ _ stop. stop ≡ stops.NoMemory };
-
-    fn from(_want: NoMemory) -> Stop {
-        Stop::NoMemory
-    }
-}
 
 /// A session between two pieces of its input.
 #[derive(Drop)]
 pub struct Session<K: Keeper> {
     pub library: Library<K>,
-    /// The line that no line feed ended yet, or the front of it where it is too long.
-    pub line: Vec<u8>,
+    pub line: KeptLine,
 }
 
 // The reply to one line.
@@ -88,14 +55,12 @@ fn answer_line<W: Sink, K: Keeper, L: Ledger>(
 }
 
 impl<K: Keeper> Session<K> {
-    pub fn new(alloc: Global, library: Library<K>) -> Session<K>
+    /// A session that begins in this line, of which nothing is kept yet.
+    pub fn new(library: Library<K>, line: KeptLine) -> Session<K>
         ensures library { result.library ≡ library }
-        ensures line { result.line.items ≡ [] }
+        ensures line { result.line ≡ line }
     {
-        Session {
-            library,
-            line: Vec::new(alloc),
-        }
+        Session { library, line }
     }
 
     /// Answers the lines that the piece ends, and keeps what comes behind them.
@@ -105,15 +70,13 @@ impl<K: Keeper> Session<K> {
         piece: &[u8],
         sink: &mut W,
         steps: &mut Steps<L>,
-    ) -> Result<(), Stop>
-        requires { length self.old.line.items ≤ MAX_LINE + 1 }
-        ensures fits { length self.new.line.items ≤ MAX_LINE + 1 }
-        ensures cause { HasCause (W.faults sink.old) (W.faults sink.new) Stop.WriteFault result }
+    ) -> Result<(), Failed>
+        ensures cause { HasCause (W.faults sink.old) (W.faults sink.new) failed result }
         // Whatever line it keeps these bytes of.
-        ensures fed { OnOk result ((line : List ℕ) → Keeps self.old.line.items line
+        ensures fed { OnOk result ((line : List ℕ) → Keeps self.old.line line
             → FedKept (state_of K.kept K.faults self.old.library) line piece.now
-            (state_of K.kept K.faults self.new.library) self.new.line.items (W.taken sink.old) (W.taken sink.new)) }
-        ensures stopped { OnErr result ((line : List ℕ) → Keeps self.old.line.items line
+            (state_of K.kept K.faults self.new.library) self.new.line (W.taken sink.old) (W.taken sink.new)) }
+        ensures stopped { OnErr result ((line : List ℕ) → Keeps self.old.line line
             → Stopped (state_of K.kept K.faults self.old.library) line piece.now
             (state_of K.kept K.faults self.new.library) (W.taken sink.old) (W.taken sink.new)) }
     {
@@ -122,7 +85,7 @@ impl<K: Keeper> Session<K> {
             self.end_line(alloc, line, sink, steps)?;
             rest = after;
         }
-        self.keep(rest)?;
+        self.line.keep(rest);
         Ok(())
     }
 
@@ -137,7 +100,7 @@ impl<K: Keeper> Session<K> {
         ensures write { result ≡ Status.WriteFault → Rose (W.faults sink.old) (W.faults sink.new) }
         ensures either { (result ≡ Status.Done) ⊎ (result ≡ Status.WriteFault) }
         ensures ends { (opening : State) (given : List ℕ) (taken : Option (List ℕ))
-            → FedKept opening [] given (state_of K.kept K.faults self.old.library) self.old.line.items
+            → FedKept opening [] given (state_of K.kept K.faults self.old.library) self.old.line
             taken (W.taken sink.old)
             → Played result opening (state_of K.kept K.faults self.new.library)
             given taken (W.taken sink.new) }
@@ -151,19 +114,6 @@ impl<K: Keeper> Session<K> {
         }
     }
 
-    // Keeps bytes without a line feed, as far as there is room for them.
-    fn keep(&mut self, bytes: &[u8]) -> Result<(), NoMemory>
-        requires { length self.old.line.items ≤ MAX_LINE + 1 }
-        ensures library { self.new.library ≡ self.old.library }
-        ensures kept { OnOk result (self.new.line.items ≡ kept_of (self.old.line.items ++ bytes.now)) }
-        ensures fits { length self.new.line.items ≤ MAX_LINE + 1 }
-    {
-        let room = MAX_KEPT - self.line.len();
-        let front = &bytes[..room.min(bytes.len())];
-        self.line.extend_from_slice(front)?;
-        Ok(())
-    }
-
     // Answers the kept line, which these bytes finish. A line that came in one piece isn't copied.
     fn end_line<W: Sink, L: Ledger>(
         &mut self,
@@ -171,23 +121,21 @@ impl<K: Keeper> Session<K> {
         front: &[u8],
         sink: &mut W,
         steps: &mut Steps<L>,
-    ) -> Result<(), Stop>
-        requires no_feed { HasNoFeed front.now }
-        requires fits { length self.old.line.items ≤ MAX_LINE + 1 }
-        ensures fits { length self.new.line.items ≤ MAX_LINE + 1 }
-        ensures empty { OnOk result (self.new.line.items ≡ []) }
-        ensures cause { HasCause (W.faults sink.old) (W.faults sink.new) Stop.WriteFault result }
-        ensures fed { OnOk result ((line : List ℕ) → Keeps self.old.line.items line
+    ) -> Result<(), Failed>
+        requires { HasNoFeed front.now }
+        ensures empty { OnOk result (self.new.line ≡ []) }
+        ensures cause { HasCause (W.faults sink.old) (W.faults sink.new) failed result }
+        ensures fed { OnOk result ((line : List ℕ) → Keeps self.old.line line
             → Fed (state_of K.kept K.faults self.old.library) line (with_feed front.now)
             (state_of K.kept K.faults self.new.library) [] (W.taken sink.old) (W.taken sink.new)) }
-        ensures stopped { OnErr result ((line more : List ℕ) → Keeps self.old.line.items line
+        ensures stopped { OnErr result ((line more : List ℕ) → Keeps self.old.line line
             → Stopped (state_of K.kept K.faults self.old.library) line (with_feed front.now ++ more)
             (state_of K.kept K.faults self.new.library) (W.taken sink.old) (W.taken sink.new)) }
     {
         if self.line.is_empty() {
             answer_line(alloc, &mut self.library, front, sink, steps)?;
         } else {
-            self.keep(front)?;
+            self.line.keep(front);
             self.answer_kept(alloc, sink, steps)?;
         }
         Ok(())
@@ -201,14 +149,14 @@ impl<K: Keeper> Session<K> {
         steps: &mut Steps<L>,
     ) -> Result<(), Failed>
         ensures cause { HasCause (W.faults sink.old) (W.faults sink.new) failed result }
-        ensures sent { (line : List ℕ) → self.old.line.items ≡ kept_of line
+        ensures sent { (line : List ℕ) → self.old.line ≡ kept_of line
             → LineSent (state_of K.kept K.faults self.old.library) line
             (state_of K.kept K.faults self.new.library) (W.taken sink.old) (W.taken sink.new) result }
-        ensures empty { OnOk result (self.new.line.items ≡ []) }
-        ensures same { OnErr result (self.new.line.items ≡ self.old.line.items) }
+        ensures empty { OnOk result (self.new.line ≡ []) }
+        ensures same { OnErr result (self.new.line ≡ self.old.line) }
     {
         long_line_laws();
-        answer_line(alloc, &mut self.library, &self.line, sink, steps)?;
+        answer_line(alloc, &mut self.library, self.line.as_slice(), sink, steps)?;
         self.line.clear();
         Ok(())
     }

@@ -49,7 +49,7 @@ fn run_counted<R: Read + Drop, W: Write + Drop, L: Ledger>(
     status
 }
 
-// What a person who reads the status may want to know.
+// What a person who reads the status may want to know, in one line.
 fn meaning_of(status: Status) -> &'static str {
     match status {
         Status::Done => "all of the input was answered",
@@ -80,7 +80,7 @@ fn main(rt: HostRuntime) -> ExitCode {
     let number = status.number();
     if number != 0 {
         let meaning = meaning_of(status);
-        let _ = eprintln!(rt; "medialib: status {number}: {meaning}");
+        let _ = eprintln!(rt; "medialib: status {number}\n{meaning}");
     }
     ExitCode::from(number)
 }

@@ -1,5 +1,4 @@
-use Rattle.std.proofs.Common.{◌≤◌, ◌+◌, List, ℕ, length}
-use Rattle.command_text.specs.declared.request.TheConstants.{MAX_LINE}
+use Rattle.std.proofs.Common.{◌≤◌, List, ℕ, length}
 use Rattle.media_tool.specs.Kept.{Keeps}
 use Rattle.media_tool.specs.Run.{state_of}
 use Rattle.media_tool.proofs.Kept.{KeptSoFar}
@@ -8,10 +7,9 @@ use Rattle.media_tool.proofs.session.Session.feed.Given as goal
 abbrev pub invariant-loop-line : goal.invariant-loop-line
 invariant-loop-line g l = record {
   later : g.W.Sink.faults l.fn.sink ≤ g.W.Sink.faults l.sink;
-  fits : length l.self.line.items ≤ MAX_LINE + 1;
-  so_far : (line : List ℕ) → Keeps l.fn.self.line.items line
+  so_far : (line : List ℕ) → Keeps l.fn.self.line line
       → KeptSoFar (state_of g.K.Keeper.kept g.K.Keeper.faults l.fn.self.library) line l.piece
-      (state_of g.K.Keeper.kept g.K.Keeper.faults l.self.library) l.self.line.items l.rest (g.W.Sink.taken l.fn.sink) (g.W.Sink.taken l.sink);
+      (state_of g.K.Keeper.kept g.K.Keeper.faults l.self.library) l.self.line l.rest (g.W.Sink.taken l.fn.sink) (g.W.Sink.taken l.sink);
 }
 
 abbrev pub decreases-loop-line : goal.decreases-loop-line

@@ -2,7 +2,7 @@ use Rattle.std.proofs.Common.{◌≡◌, List, ℕ, [], subst}
 use Rattle.media_tool.specs.Feeding.{Fed}
 use Rattle.media_tool.specs.Run.{state_of}
 use Rattle.media_tool.proofs.Feeds.{ends_fed, ends_sent, ends_cut_off}
-use Rattle.media_tool.proofs.Kept.{nil_from_test, some_from_test, nil_of_keeps, keeps_of_nil}
+use Rattle.media_tool.proofs.Kept.{nil_of_keeps, keeps_of_nil}
 use Rattle.media_tool.proofs.session.Session.finish.Goals as goal
 
 pub returns-then-is_empty-clause-ends : goal.returns-then-is_empty-clause-ends
@@ -10,19 +10,19 @@ returns-then-is_empty-clause-ends g c = λ opening given taken p.
     let state = state_of g.K.Keeper.kept g.K.Keeper.faults in
     let old = c.args.self.now in
     let now = g.W.Sink.taken c.args.sink.now in
-    let nil = nil_of_keeps old.line.items p.rest (nil_from_test old.line.items _ _ old.line.ok.0 c.is_empty.ensures c.if-is_empty.true) p.keeps.front in
+    let nil = nil_of_keeps old.line p.rest (c.is_empty.ensures.0 c.if-is_empty.true) p.keeps.front in
     ends_fed opening given (state old.library) taken now (subst (λ (line : List ℕ). Fed opening [] given (state old.library) line taken now) nil p.fed)
 
 pub returns-in-Ok-clause-ends : goal.returns-in-Ok-clause-ends
 returns-in-Ok-clause-ends g c = λ opening given taken p.
     let state = state_of g.K.Keeper.kept g.K.Keeper.faults in
     let old = c.args.self.now in
-    let some : p.rest ≡ [] → ⊥ = λ nil. some_from_test old.line.items _ _ old.line.ok.0 c.is_empty.ensures c.if-is_empty.false (keeps_of_nil old.line.items p.rest p.keeps.front nil) in
+    let some : p.rest ≡ [] → ⊥ = λ nil. absurd (cc (c.if-is_empty.false, c.is_empty.ensures.1 (keeps_of_nil old.line p.rest p.keeps.front nil))) in
     ends_sent opening given (state old.library) (state c.answer_kept.new.self.library) p.rest taken (g.W.Sink.taken c.args.sink.now) (g.W.Sink.taken c.answer_kept.new.sink) some p.fed (c.in-Ok.ensures.sent p.rest p.keeps.front)
 
 pub returns-in-Err-clause-ends : goal.returns-in-Err-clause-ends
 returns-in-Err-clause-ends g c = λ opening given taken p.
     let state = state_of g.K.Keeper.kept g.K.Keeper.faults in
     let old = c.args.self.now in
-    let some : p.rest ≡ [] → ⊥ = λ nil. some_from_test old.line.items _ _ old.line.ok.0 c.is_empty.ensures c.if-is_empty.false (keeps_of_nil old.line.items p.rest p.keeps.front nil) in
+    let some : p.rest ≡ [] → ⊥ = λ nil. absurd (cc (c.if-is_empty.false, c.is_empty.ensures.1 (keeps_of_nil old.line p.rest p.keeps.front nil))) in
     ends_cut_off opening given (state old.library) (state c.answer_kept.new.self.library) p.rest taken (g.W.Sink.taken c.args.sink.now) (g.W.Sink.taken c.answer_kept.new.sink) some p.fed (c.in-Err.ensures.sent p.rest p.keeps.front)
