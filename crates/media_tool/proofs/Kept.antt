@@ -3,13 +3,14 @@ use Rattle.std.proofs.Common.{◌≡◌, ◌↔◌, ℕ, suc, zero, ◌+◌, ◌
 use Rattle.std.proofs.lemmas.Bool.{eqb-true, eqb-false, cases_lt}
 use Rattle.std.proofs.lemmas.List.{nil_from_length, length-take, take_all}
 use Rattle.media_base.specs.declared.refusal.Refusal.TheVariants as refusals
-use Rattle.media_base.specs.declared.reply.Reply.{Reply}
+use Rattle.media_base.specs.Replying.{Reply}
+use Rattle.library_core.specs.Done.{Telling}
 use Rattle.command_text.specs.Reading.{line_command}
 use Rattle.command_text.specs.declared.request.TheConstants.{MAX_LINE}
 use Rattle.media_tool.specs.Feeding.{Fed, FedKept, LineSent, Stopped}
 use Rattle.media_tool.specs.Kept.{kept_of, Keeps}
 use Rattle.media_tool.specs.Lines.{HasNoFeed}
-use Rattle.media_tool.specs.Run.{LineAnswered, as_command, as_refused, as_no_memory, State}
+use Rattle.media_tool.specs.Run.{LineAnswered, as_command, as_refused, as_no_memory, SessionState}
 use Rattle.media_tool.proofs.Cuts.{AllByRecursion-append}
 use Rattle.media_tool.proofs.Feeds.{FedSoFar, fed_kept, so_far_none, so_far_more, so_far_all, so_far_stopped}
 
@@ -89,46 +90,47 @@ same_reading law line = elim (cases_lt (MAX_LINE + 1) (length line)) [
   | inr fits ↦ ap line_command (kept_whole line fits)
 ]
 
-same_answer : (r m : State) (a b : List ℕ) (reply : Reply) → line_command a ≡ line_command b → LineAnswered r a reply m → LineAnswered r b reply m
-same_answer r m a b reply same (as_command command spelled answered) = as_command command (sym same ∙ spelled) answered
-same_answer r m a b reply same (as_refused why read is unchanged) = as_refused why (sym same ∙ read) is unchanged
-same_answer r m a b reply same (as_no_memory is unchanged) = as_no_memory is unchanged
-
-pub kept_sent : {T E : Type 0} → RefusesLong → (r m : State) (kept line : List ℕ) (t u : Option (List ℕ)) (result : Result T E) → LineSent r kept m t u result → kept ≡ kept_of line → LineSent r line m t u result
-kept_sent law r m kept line t u result sent front = record {
-  reply = sent.reply;
-  answered = same_answer r m kept line sent.reply (ap line_command front ∙ same_reading law line) sent.answered;
-  sends = sent.sends;
-}
-
 -- ---- within a piece
 
 -- A front of the piece was fed, this is the rest of it, and these bytes are kept of the line in between.
-pub record KeptSoFar (r : State) (line piece : List ℕ) (m : State) (kept rest : List ℕ) (t u : Option (List ℕ)) : Type 0 where
+pub record KeptSoFar {K : Type 0} (tells : Telling K) (r : SessionState K) (line piece : List ℕ) (m : SessionState K) (kept rest : List ℕ) (t u : Option (List ℕ)) : Type 0 where
   pub mid : List ℕ
   pub keeps : Keeps kept mid
-  pub so_far : FedSoFar r line piece m mid rest t u
+  pub so_far : FedSoFar tells r line piece m mid rest t u
 
-pub kept_so_far_none : (r : State) (kept line piece : List ℕ) (t : Option (List ℕ)) → Keeps kept line → KeptSoFar r line piece r kept piece t t
-kept_so_far_none r kept line piece t keeps = record { mid = line; keeps = keeps; so_far = so_far_none r line piece t keeps.unfinished }
+module _ {K : Type 0} {tells : Telling K} where
+  same_answer : (r m : SessionState K) (a b : List ℕ) (reply : Reply) → line_command a ≡ line_command b → LineAnswered tells r a reply m → LineAnswered tells r b reply m
+  same_answer r m a b reply same (as_command command spelled answered) = as_command command (sym same ∙ spelled) answered
+  same_answer r m a b reply same (as_refused why read is unchanged) = as_refused why (sym same ∙ read) is unchanged
+  same_answer r m a b reply same (as_no_memory is unchanged) = as_no_memory is unchanged
 
--- the line was finished and answered
-pub kept_so_far_more : (r m s : State) (line piece kept front rest after last : List ℕ) (t u v : Option (List ℕ)) → KeptSoFar r line piece m kept rest t u → rest ≡ front ++ after → last ≡ []
-    → ((mid : List ℕ) → Keeps kept mid → Fed m mid front s [] u v) → KeptSoFar r line piece s last after t v
-kept_so_far_more r m s line piece kept front rest after last t u v p is none q = record {
-  mid = [];
-  keeps = keeps_nothing last none;
-  so_far = so_far_more r m s line piece p.mid front rest after [] t u v p.so_far is (q p.mid p.keeps);
-}
+  pub kept_sent : {T E : Type 0} → RefusesLong → (r m : SessionState K) (kept line : List ℕ) (t u : Option (List ℕ)) (result : Result T E) → LineSent tells r kept m t u result → kept ≡ kept_of line → LineSent tells r line m t u result
+  kept_sent law r m kept line t u result sent front = record {
+    reply = sent.reply;
+    answered = same_answer r m kept line sent.reply (ap line_command front ∙ same_reading law line) sent.answered;
+    sends = sent.sends;
+  }
 
--- the rest has no line feed, and was kept
-pub kept_so_far_all : (r m s : State) (line piece kept rest last : List ℕ) (t u : Option (List ℕ)) → KeptSoFar r line piece m kept rest t u → HasNoFeed rest → s ≡ m → last ≡ kept_of (kept ++ rest)
-    → FedKept r line piece s last t u
-kept_so_far_all r m s line piece kept rest last t u p no_feed same is = record {
-  rest = p.mid ++ rest;
-  keeps = keeps_more kept last p.mid rest p.keeps no_feed is;
-  fed = so_far_all r m s line piece p.mid rest (p.mid ++ rest) t u u p.so_far (fed_kept m s p.mid rest (p.mid ++ rest) u p.keeps.unfinished no_feed same refl);
-}
+  pub kept_so_far_none : (r : SessionState K) (kept line piece : List ℕ) (t : Option (List ℕ)) → Keeps kept line → KeptSoFar tells r line piece r kept piece t t
+  kept_so_far_none r kept line piece t keeps = record { mid = line; keeps = keeps; so_far = so_far_none r line piece t keeps.unfinished }
 
-pub kept_so_far_stopped : (r m s : State) (line piece kept rest : List ℕ) (t u v : Option (List ℕ)) → KeptSoFar r line piece m kept rest t u → ((mid : List ℕ) → Keeps kept mid → Stopped m mid rest s u v) → Stopped r line piece s t v
-kept_so_far_stopped r m s line piece kept rest t u v p q = so_far_stopped r m s line piece p.mid rest t u v p.so_far (q p.mid p.keeps)
+  -- the line was finished and answered
+  pub kept_so_far_more : (r m s : SessionState K) (line piece kept front rest after last : List ℕ) (t u v : Option (List ℕ)) → KeptSoFar tells r line piece m kept rest t u → rest ≡ front ++ after → last ≡ []
+      → ((mid : List ℕ) → Keeps kept mid → Fed tells m mid front s [] u v) → KeptSoFar tells r line piece s last after t v
+  kept_so_far_more r m s line piece kept front rest after last t u v p is none q = record {
+    mid = [];
+    keeps = keeps_nothing last none;
+    so_far = so_far_more r m s line piece p.mid front rest after [] t u v p.so_far is (q p.mid p.keeps);
+  }
+
+  -- the rest has no line feed, and was kept
+  pub kept_so_far_all : (r m s : SessionState K) (line piece kept rest last : List ℕ) (t u : Option (List ℕ)) → KeptSoFar tells r line piece m kept rest t u → HasNoFeed rest → s ≡ m → last ≡ kept_of (kept ++ rest)
+      → FedKept tells r line piece s last t u
+  kept_so_far_all r m s line piece kept rest last t u p no_feed same is = record {
+    rest = p.mid ++ rest;
+    keeps = keeps_more kept last p.mid rest p.keeps no_feed is;
+    fed = so_far_all r m s line piece p.mid rest (p.mid ++ rest) t u u p.so_far (fed_kept m s p.mid rest (p.mid ++ rest) u p.keeps.unfinished no_feed same refl);
+  }
+
+  pub kept_so_far_stopped : (r m s : SessionState K) (line piece kept rest : List ℕ) (t u v : Option (List ℕ)) → KeptSoFar tells r line piece m kept rest t u → ((mid : List ℕ) → Keeps kept mid → Stopped tells m mid rest s u v) → Stopped tells r line piece s t v
+  kept_so_far_stopped r m s line piece kept rest t u v p q = so_far_stopped r m s line piece p.mid rest t u v p.so_far (q p.mid p.keeps)

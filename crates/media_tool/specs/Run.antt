@@ -1,61 +1,59 @@
 -- What a session may answer to its lines, one after the other.
-use Rattle.std.specs.Prelude.{◌≡◌, ℕ, ◌≤◌, Bool, true, false, List, [], ◌∷◌, count_by, Option, Ok, Err}
+use Rattle.std.specs.Prelude.{◌≡◌, ℕ, Bool, true, false, List, [], ◌∷◌, count_by, Option, Ok, Err}
 use Rattle.std.specs.List.{flat_map}
-use Rattle.media_types.specs.Cause.{Rose}
+use Rattle.media_base.specs.declared.change.Change.{Change}
 use Rattle.media_base.specs.declared.command.Caller.TheVariants as callers
 use Rattle.media_base.specs.declared.command.Command.{Command}
 use Rattle.media_base.specs.declared.refusal.Refusal.{Refusal}
 use Rattle.media_base.specs.declared.refusal.Refusal.TheVariants as refusals
-use Rattle.media_base.specs.declared.reply.Reply.{Reply}
-use Rattle.media_base.specs.declared.reply.Reply.TheVariants as replies
 use Rattle.media_base.specs.Keeping.{Readings}
-use Rattle.library_machine.specs.Changes.{kept_with}
-use Rattle.library_machine.specs.Records.{Records}
-use Rattle.library_machine.specs.Step.{Answered, step}
+use Rattle.media_base.specs.Replying.{Reply}
+use Rattle.library_machine.specs.Step.{State, step}
 use Rattle.command_text.specs.Reading.{line_command}
 use Rattle.reply_text.specs.ReplyText.{reply_line}
+use Rattle.library_core.specs.Done.{Telling, IsDone}
 use Rattle.library_core.specs.Keeping.{LibraryView}
 
--- What a session goes through: the records, the changes that the keeper keeps, where it tells them, and how
--- often it has failed.
-pub record State : Type 0 where
-  pub records : Records
-  pub kept : Option Readings
-  pub faults : ℕ
+-- What a session goes through: the state of the machine, and the keeper of its changes.
+pub record SessionState (K : Type 0) : Type 0 where
+  pub machine : State
+  pub keeper : K
 
--- the state of a library, by what its keeper keeps and how often it has failed
-abbrev pub state_of : {K : Type 0} → (K → Option Readings) → (K → ℕ) → LibraryView K → State
-state_of kept faults library =
-    record { records = library.records; kept = kept library.keeper; faults = faults library.keeper }
+-- the state of a session over this library
+abbrev pub state_of : {K : Type 0} → LibraryView K → SessionState K
+state_of library = record { machine = library.state; keeper = library.keeper }
 
--- A command may be answered so: as the machine answers it, with its change kept unless it was refused. Where
--- the reply says that the change wasn't kept, the keeper has failed once more.
-pub record CommandAnswered (s : State) (command : Command) (reply : Reply) (t : State) : Type 0 where
-  pub answered : Answered s.records callers.Console command reply t.records
-  pub kept : t.kept ≡ kept_with (step s.records callers.Console command).change reply s.kept
-  pub later : s.faults ≤ t.faults
-  pub rose : reply ≡ replies.Refused refusals.NotKept → Rose s.faults t.faults
+-- what the keepers of a kind tell
+abbrev pub telling : {K : Type 0} → (K → Option Readings) → (K → Option Bool) → (K → ℕ) → (K → ℕ) → (K → Change → ℕ) → (K → ℕ) → Telling K
+telling kept alien faults used units limit =
+    record { kept = kept; alien = alien; faults = faults; used = used; units = units; limit = limit }
 
--- One line may be answered so: with the answer to the console's command that it spells, with the refusal of
--- its reading, or with want of memory. A line that isn't answered as a command changes nothing.
-pub data LineAnswered (s : State) (line : List ℕ) (reply : Reply) (t : State) : Type 0 where
-  as_command : (command : Command) → line_command line ≡ Ok command → CommandAnswered s command reply t → LineAnswered s line reply t
-  as_refused : (why : Refusal) → line_command line ≡ Err why → reply ≡ replies.Refused why → t ≡ s → LineAnswered s line reply t
-  as_no_memory : reply ≡ replies.Refused refusals.NoMemory → t ≡ s → LineAnswered s line reply t
+module _ {K : Type 0} (tells : Telling K) where
+  -- A command of the console may be answered so, and leaves this state.
+  abbrev pub CommandAnswered : SessionState K → Command → Reply → SessionState K → Type 0
+  CommandAnswered s command reply t =
+      IsDone tells s.machine s.keeper (step s.machine callers.Console command) reply t.machine t.keeper
 
--- The lines may be answered so, each from the state that the line before it left.
-abbrev pub Run : State → List (List ℕ) → List Reply → State → Type 0
-Run s [] [] after = after ≡ s
-Run s (line ∷ lines) (reply ∷ replies) after = (next : State) × LineAnswered s line reply next × Run next lines replies after
-Run s [] (reply ∷ replies) after = ⊥
-Run s (line ∷ lines) [] after = ⊥
+  -- One line may be answered so: with the answer to the console's command that it spells, with the refusal of
+  -- its reading, or with want of memory. A line that isn't answered as a command changes nothing.
+  pub data LineAnswered (s : SessionState K) (line : List ℕ) (reply : Reply) (t : SessionState K) : Type 0 where
+    as_command : (command : Command) → line_command line ≡ Ok command → CommandAnswered s command reply t → LineAnswered s line reply t
+    as_refused : (why : Refusal) → line_command line ≡ Err why → reply ≡ Err why → t ≡ s → LineAnswered s line reply t
+    as_no_memory : reply ≡ Err refusals.NoMemory → t ≡ s → LineAnswered s line reply t
+
+  -- The lines may be answered so, each from the state that the line before it left.
+  abbrev pub Run : SessionState K → List (List ℕ) → List Reply → SessionState K → Type 0
+  Run s [] [] after = after ≡ s
+  Run s (line ∷ lines) (reply ∷ replies) after = (next : SessionState K) × LineAnswered s line reply next × Run next lines replies after
+  Run s [] (reply ∷ replies) after = ⊥
+  Run s (line ∷ lines) [] after = ⊥
 
 -- the text of a run: each reply, with a line feed
 abbrev pub text_of : List Reply → List ℕ
 text_of replies = flat_map reply_line replies
 
 abbrev pub is_not_kept : Reply → Bool
-is_not_kept (replies.Refused refusals.NotKept) = true
+is_not_kept (Err refusals.NotKept) = true
 is_not_kept reply = false
 
 -- how many of the replies say that a change wasn't kept

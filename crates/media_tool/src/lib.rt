@@ -9,7 +9,10 @@ mod program;
 mod session;
 mod standard;
 
-pub use laws::{ended_lines_are_a_front, failures_are_counted, one_cut};
+pub use laws::{
+    ended_lines_are_a_front, failures_are_counted, memory_keeps_all, one_cut, ready_keepers_keep_all,
+    room_is_told,
+};
 pub use play::MAX_INPUT;
 pub use program::run;
 pub use standard::{StdSink, StdSource};

@@ -1,10 +1,10 @@
 ghost use Rattle.std.specs.Prelude.{◌≡◌, ◌≢◌, ◌<◌, ◌≤◌, ℕ, [], length, true, false, Some, Err, IfOk, MatchResult};
 ghost use Rattle.std.specs.Io.KnownBytes.{IsAtEnd};
-ghost use Rattle.library_machine.specs.Changes.{opened};
+ghost use Rattle.library_machine.specs.Opening.{opened};
 ghost use Rattle.media_types.specs.Cause.{HasCause, Rose, failed};
 ghost use Rattle.media_base.specs.Keeping.{Readings};
 ghost use Rattle.media_base.specs.Transfer.{GaveFront};
-ghost use Rattle.media_tool.specs.Run.{state_of};
+ghost use Rattle.media_tool.specs.Run.{state_of, telling};
 ghost use Rattle.media_tool.specs.Session.{HasOpened, Plays, PlaysFrom, load_status};
 ghost use Rattle.media_tool.specs.declared.play.TheConstants.{PIECE};
 
@@ -44,8 +44,8 @@ fn play_pieces<S: Source, W: Sink, K: Keeper, L: Ledger>(
 ) -> Status
     requires line { session.old.line ≡ [] }
     requires chunk { length chunk.old ≡ PIECE }
-    ensures plays { PlaysFrom (state_of K.kept K.faults session.old.library)
-        (state_of K.kept K.faults session.new.library)
+    ensures plays { PlaysFrom (telling K.kept K.alien K.faults K.used K.units K.limit) (state_of session.old.library)
+        (state_of session.new.library)
         result (S.left source.old) (S.left source.new) (W.taken sink.old) (W.taken sink.new) }
     ensures done { result ≡ Status.Done → IsAtEnd (S.left source.new) }
     ensures ran { HasOpened result }
@@ -96,9 +96,9 @@ pub fn play<S: Source, W: Sink, K: Keeper, L: Ledger>(
     keeper: K,
     steps: &mut Steps<L>,
 ) -> (Status, K)
-    ensures plays { Plays (K.alien keeper) (K.gives keeper) (K.kept keeper) (K.kept result.1)
-        (K.faults keeper) (K.faults result.1)
-        result.0 (S.left source.old) (S.left source.new) (W.taken sink.old) (W.taken sink.new) }
+    ensures plays { Plays (telling K.kept K.alien K.faults K.used K.units K.limit)
+        (K.gives keeper) keeper result.1 result.0
+        (S.left source.old) (S.left source.new) (W.taken sink.old) (W.taken sink.new) }
     ensures done { result.0 ≡ Status.Done → IsAtEnd (S.left source.new) }
     ensures ran { result.0 ≢ Status.Usage }
     ensures unread { (HasOpened result.0 → ⊥) → (source.new ≡ source.old) × (sink.new ≡ sink.old) }

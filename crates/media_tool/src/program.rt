@@ -2,7 +2,8 @@ ghost use Rattle.std.specs.Prelude.{◌≡◌, ◌≢◌, ◌≤◌, ◌↔◌, 
 ghost use Rattle.std.specs.Io.KnownBytes.{IsAtEnd};
 ghost use Rattle.media_types.specs.Cause.{Rose};
 ghost use Rattle.media_base.specs.Keeping.{Readings};
-ghost use Rattle.library_machine.specs.Changes.{opened};
+ghost use Rattle.library_machine.specs.Opening.{opened};
+ghost use Rattle.media_tool.specs.Run.{telling};
 ghost use Rattle.media_tool.specs.Session.{HasOpened, Plays};
 ghost use Rattle.media_tool.specs.Words.{play_words};
 
@@ -31,9 +32,9 @@ pub fn run<S: Source, W: Sink, K: Keeper, L: Ledger>(
     steps: &mut Steps<L>,
 ) -> (Status, K)
     // The sink took, and the keeper keeps, what this status promises for the bytes that the source gave.
-    ensures plays { Plays (K.alien keeper) (K.gives keeper) (K.kept keeper) (K.kept result.1)
-        (K.faults keeper) (K.faults result.1)
-        result.0 (S.left source.old) (S.left source.new) (W.taken sink.old) (W.taken sink.new) }
+    ensures plays { Plays (telling K.kept K.alien K.faults K.used K.units K.limit)
+        (K.gives keeper) keeper result.1 result.0
+        (S.left source.old) (S.left source.new) (W.taken sink.old) (W.taken sink.new) }
     ensures done { result.0 ≡ Status.Done → IsAtEnd (S.left source.new) }
 
     // Where no library opened, nothing is read or written.

@@ -3,7 +3,7 @@ ghost use Rattle.media_types.specs.Cause.{HasCause, Rose, failed};
 ghost use Rattle.media_tool.specs.Feeding.{Fed, FedKept, LineSent, Stopped};
 ghost use Rattle.media_tool.specs.Kept.{Keeps, kept_of};
 ghost use Rattle.media_tool.specs.Lines.{HasNoFeed, with_feed};
-ghost use Rattle.media_tool.specs.Run.{LineAnswered, State, state_of};
+ghost use Rattle.media_tool.specs.Run.{LineAnswered, SessionState, state_of, telling};
 ghost use Rattle.media_tool.specs.Session.{Played};
 
 use crate::kept_line::KeptLine;
@@ -29,13 +29,11 @@ fn reply_to<K: Keeper, L: Ledger>(
     line: &[u8],
     steps: &mut Steps<L>,
 ) -> Reply
-    ensures { LineAnswered (state_of K.kept K.faults library.old) line.now result
-        (state_of K.kept K.faults library.new) }
+    ensures { LineAnswered (telling K.kept K.alien K.faults K.used K.units K.limit) (state_of library.old) line.now result
+        (state_of library.new) }
 {
-    match read_line(alloc, line) {
-        Ok(command) => library.answer(Caller::Console, &command, steps),
-        Err(refusal) => Reply::Refused(refusal),
-    }
+    let command = read_line(alloc, line)?;
+    library.answer(Caller::Console, &command, steps)
 }
 
 // Answers one line.
@@ -47,8 +45,8 @@ fn answer_line<W: Sink, K: Keeper, L: Ledger>(
     steps: &mut Steps<L>,
 ) -> Result<(), Failed>
     ensures cause { HasCause (W.faults sink.old) (W.faults sink.new) failed result }
-    ensures sent { LineSent (state_of K.kept K.faults library.old) line.now
-        (state_of K.kept K.faults library.new) (W.taken sink.old) (W.taken sink.new) result }
+    ensures sent { LineSent (telling K.kept K.alien K.faults K.used K.units K.limit) (state_of library.old) line.now
+        (state_of library.new) (W.taken sink.old) (W.taken sink.new) result }
 {
     let reply = reply_to(alloc, library, line, steps);
     write_reply_line(&reply, sink)
@@ -74,11 +72,11 @@ impl<K: Keeper> Session<K> {
         ensures cause { HasCause (W.faults sink.old) (W.faults sink.new) failed result }
         // Whatever line it keeps these bytes of.
         ensures fed { OnOk result ((line : List ℕ) → Keeps self.old.line line
-            → FedKept (state_of K.kept K.faults self.old.library) line piece.now
-            (state_of K.kept K.faults self.new.library) self.new.line (W.taken sink.old) (W.taken sink.new)) }
+            → FedKept (telling K.kept K.alien K.faults K.used K.units K.limit) (state_of self.old.library) line piece.now
+            (state_of self.new.library) self.new.line (W.taken sink.old) (W.taken sink.new)) }
         ensures stopped { OnErr result ((line : List ℕ) → Keeps self.old.line line
-            → Stopped (state_of K.kept K.faults self.old.library) line piece.now
-            (state_of K.kept K.faults self.new.library) (W.taken sink.old) (W.taken sink.new)) }
+            → Stopped (telling K.kept K.alien K.faults K.used K.units K.limit) (state_of self.old.library) line piece.now
+            (state_of self.new.library) (W.taken sink.old) (W.taken sink.new)) }
     {
         let mut rest = piece;
         while let Some((line, after)) = split_line(rest) {
@@ -99,10 +97,10 @@ impl<K: Keeper> Session<K> {
         ensures later { W.faults sink.old ≤ W.faults sink.new }
         ensures write { result ≡ Status.WriteFault → Rose (W.faults sink.old) (W.faults sink.new) }
         ensures either { (result ≡ Status.Done) ⊎ (result ≡ Status.WriteFault) }
-        ensures ends { (opening : State) (given : List ℕ) (taken : Option (List ℕ))
-            → FedKept opening [] given (state_of K.kept K.faults self.old.library) self.old.line
+        ensures ends { (opening : SessionState K) (given : List ℕ) (taken : Option (List ℕ))
+            → FedKept (telling K.kept K.alien K.faults K.used K.units K.limit) opening [] given (state_of self.old.library) self.old.line
             taken (W.taken sink.old)
-            → Played result opening (state_of K.kept K.faults self.new.library)
+            → Played (telling K.kept K.alien K.faults K.used K.units K.limit) result opening (state_of self.new.library)
             given taken (W.taken sink.new) }
     {
         if self.line.is_empty() {
@@ -126,11 +124,11 @@ impl<K: Keeper> Session<K> {
         ensures empty { OnOk result (self.new.line ≡ []) }
         ensures cause { HasCause (W.faults sink.old) (W.faults sink.new) failed result }
         ensures fed { OnOk result ((line : List ℕ) → Keeps self.old.line line
-            → Fed (state_of K.kept K.faults self.old.library) line (with_feed front.now)
-            (state_of K.kept K.faults self.new.library) [] (W.taken sink.old) (W.taken sink.new)) }
+            → Fed (telling K.kept K.alien K.faults K.used K.units K.limit) (state_of self.old.library) line (with_feed front.now)
+            (state_of self.new.library) [] (W.taken sink.old) (W.taken sink.new)) }
         ensures stopped { OnErr result ((line more : List ℕ) → Keeps self.old.line line
-            → Stopped (state_of K.kept K.faults self.old.library) line (with_feed front.now ++ more)
-            (state_of K.kept K.faults self.new.library) (W.taken sink.old) (W.taken sink.new)) }
+            → Stopped (telling K.kept K.alien K.faults K.used K.units K.limit) (state_of self.old.library) line (with_feed front.now ++ more)
+            (state_of self.new.library) (W.taken sink.old) (W.taken sink.new)) }
     {
         if self.line.is_empty() {
             answer_line(alloc, &mut self.library, front, sink, steps)?;
@@ -150,8 +148,8 @@ impl<K: Keeper> Session<K> {
     ) -> Result<(), Failed>
         ensures cause { HasCause (W.faults sink.old) (W.faults sink.new) failed result }
         ensures sent { (line : List ℕ) → self.old.line ≡ kept_of line
-            → LineSent (state_of K.kept K.faults self.old.library) line
-            (state_of K.kept K.faults self.new.library) (W.taken sink.old) (W.taken sink.new) result }
+            → LineSent (telling K.kept K.alien K.faults K.used K.units K.limit) (state_of self.old.library) line
+            (state_of self.new.library) (W.taken sink.old) (W.taken sink.new) result }
         ensures empty { OnOk result (self.new.line ≡ []) }
         ensures same { OnErr result (self.new.line ≡ self.old.line) }
     {

@@ -12,7 +12,7 @@ returns-in-Ok-clause-later_store g c =
     let opening = c.new-session.result.library in
     let after = c.play_pieces-status.new.session.library in
     let opened : faults opening.keeper ≡ faults c.in-Ok.library.keeper = ap (λ (library : LibraryView g.row.K.Denot). faults library.keeper) c.new-session.ensures.library in
-    let played = plays_later c.play_pieces-status.result (state opening) (state after) (g.S.Source.left c.args.source.now) (g.S.Source.left c.play_pieces-status.new.source)
+    let played = plays_later c.play_pieces-status.result (state_of opening) (state_of after) (g.S.Source.left c.args.source.now) (g.S.Source.left c.play_pieces-status.new.source)
     (g.W.Sink.taken c.args.sink.now) (g.W.Sink.taken c.play_pieces-status.new.sink) c.play_pieces-status.ensures.plays in
     let released : faults c.release.result ≡ faults after.keeper = ap faults c.release.ensures.keeper in
     omega (arith, c.in-Ok.ensures.later, opened, played, released)

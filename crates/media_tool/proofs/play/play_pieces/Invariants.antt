@@ -7,8 +7,8 @@ abbrev pub invariant-loop-room : goal.invariant-loop-room
 invariant-loop-room g l = record {
   later_read : g.S.Source.faults l.fn.source ≤ g.S.Source.faults l.source;
   later_write : g.W.Sink.faults l.fn.sink ≤ g.W.Sink.faults l.sink;
-  so_far : PlayedSoFar (state_of g.K.Keeper.kept g.K.Keeper.faults l.fn.session.library) l.room
-      (state_of g.K.Keeper.kept g.K.Keeper.faults l.session.library) l.session.line (g.S.Source.left l.fn.source) (g.S.Source.left l.source) (g.W.Sink.taken l.fn.sink) (g.W.Sink.taken l.sink);
+  so_far : PlayedSoFar (state_of l.fn.session.library) l.room
+      (state_of l.session.library) l.session.line (g.S.Source.left l.fn.source) (g.S.Source.left l.source) (g.W.Sink.taken l.fn.sink) (g.W.Sink.taken l.sink);
 }
 
 abbrev pub decreases-loop-room : goal.decreases-loop-room

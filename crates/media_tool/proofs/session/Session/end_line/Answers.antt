@@ -7,42 +7,38 @@ use Rattle.media_tool.proofs.session.Session.end_line.Goals as goal
 
 pub returns-in_ok-answer_line-clause-fed : goal.returns-in_ok-answer_line-clause-fed
 returns-in_ok-answer_line-clause-fed g c = λ line keeps.
-    let state = state_of g.K.Keeper.kept g.K.Keeper.faults in
     let t = g.W.Sink.taken c.args.sink.now in
     let u = g.W.Sink.taken c.answer_line.new.sink in
     let old = c.args.self.now in
     let front = c.args.front.now in
     let nil = nil_of_keeps old.line line (c.is_empty.ensures.0 c.if-is_empty.true) keeps.front in
     let whole : front ≡ line ++ front = ap (λ (bytes : List ℕ). bytes ++ front) (sym nil) in
-    sent_fed (state old.library) (state c.answer_line.new.library) line front front t u whole (AllByRecursion-append (λ byte. byte ≢ 10) line front keeps.unfinished c.requires) c.in_ok-answer_line.ensures.sent
+    sent_fed (state_of old.library) (state_of c.answer_line.new.library) line front front t u whole (AllByRecursion-append (λ byte. byte ≢ 10) line front keeps.unfinished c.requires) c.in_ok-answer_line.ensures.sent
 
 pub returns-in_err-answer_line-clause-stopped : goal.returns-in_err-answer_line-clause-stopped
 returns-in_err-answer_line-clause-stopped g c = on_err c.from_residual.result (λ line more keeps.
-    let state = state_of g.K.Keeper.kept g.K.Keeper.faults in
     let t = g.W.Sink.taken c.args.sink.now in
     let u = g.W.Sink.taken c.answer_line.new.sink in
     let old = c.args.self.now in
     let front = c.args.front.now in
     let nil = nil_of_keeps old.line line (c.is_empty.ensures.0 c.if-is_empty.true) keeps.front in
     let whole : front ≡ line ++ front = ap (λ (bytes : List ℕ). bytes ++ front) (sym nil) in
-    sent_stopped (state old.library) (state c.answer_line.new.library) line front front more t u whole (AllByRecursion-append (λ byte. byte ≢ 10) line front keeps.unfinished c.requires) c.in_err-answer_line.ensures.sent)
+    sent_stopped (state_of old.library) (state_of c.answer_line.new.library) line front front more t u whole (AllByRecursion-append (λ byte. byte ≢ 10) line front keeps.unfinished c.requires) c.in_err-answer_line.ensures.sent)
 
 pub returns-in_ok-answer_kept-clause-fed : goal.returns-in_ok-answer_kept-clause-fed
 returns-in_ok-answer_kept-clause-fed g c = λ line keeps.
-    let state = state_of g.K.Keeper.kept g.K.Keeper.faults in
     let t = g.W.Sink.taken c.args.sink.now in
     let u = g.W.Sink.taken c.answer_kept.new.sink in
     let old = c.args.self.now in
     let front = c.args.front.now in
     let whole = keeps_more old.line c.keep.new.self line front keeps c.requires c.keep.ensures in
-    sent_fed (state old.library) (state c.answer_kept.new.self.library) line front (line ++ front) t u refl whole.unfinished (c.in_ok-answer_kept.ensures.sent (line ++ front) whole.front)
+    sent_fed (state_of old.library) (state_of c.answer_kept.new.self.library) line front (line ++ front) t u refl whole.unfinished (c.in_ok-answer_kept.ensures.sent (line ++ front) whole.front)
 
 pub returns-in_err-answer_kept-clause-stopped : goal.returns-in_err-answer_kept-clause-stopped
 returns-in_err-answer_kept-clause-stopped g c = on_err c.from_residual-in_err-answer_kept.result (λ line more keeps.
-    let state = state_of g.K.Keeper.kept g.K.Keeper.faults in
     let t = g.W.Sink.taken c.args.sink.now in
     let u = g.W.Sink.taken c.answer_kept.new.sink in
     let old = c.args.self.now in
     let front = c.args.front.now in
     let whole = keeps_more old.line c.keep.new.self line front keeps c.requires c.keep.ensures in
-    sent_stopped (state old.library) (state c.answer_kept.new.self.library) line front (line ++ front) more t u refl whole.unfinished (c.in_err-answer_kept.ensures.sent (line ++ front) whole.front))
+    sent_stopped (state_of old.library) (state_of c.answer_kept.new.self.library) line front (line ++ front) more t u refl whole.unfinished (c.in_err-answer_kept.ensures.sent (line ++ front) whole.front))

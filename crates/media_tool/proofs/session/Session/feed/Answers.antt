@@ -9,35 +9,32 @@ use Rattle.media_tool.proofs.session.Session.feed.Goals as goal
 pub loop-line-init : goal.loop-line-init
 loop-line-init g c = record {
   later = omega arith;
-  so_far = λ line keeps. kept_so_far_none (state_of g.K.Keeper.kept g.K.Keeper.faults c.args.self.now.library) c.args.self.now.line line c.args.piece.now (g.W.Sink.taken c.args.sink.now) keeps;
+  so_far = λ line keeps. kept_so_far_none (state_of c.args.self.now.library) c.args.self.now.line line c.args.piece.now (g.W.Sink.taken c.args.sink.now) keeps;
 }
 
 pub loop-line-preserved : goal.loop-line-preserved
 loop-line-preserved g c =
-    let state = state_of g.K.Keeper.kept g.K.Keeper.faults in
     let taken = g.W.Sink.taken in
     let old = c.args.self.now in
     let mid = c.loop-line.self in
     let new = c.end_line.new.self in
     record {
       later = omega (arith, c.loop-line.invariant.later, c.end_line.ensures.cause.later);
-      so_far = λ line keeps. kept_so_far_more (state old.library) (state mid.library) (state new.library) line c.args.piece.now mid.line (with_feed c.in-Some.line.now) c.loop-line.rest.now c.in-Some.after.now new.line
+      so_far = λ line keeps. kept_so_far_more (state_of old.library) (state_of mid.library) (state_of new.library) line c.args.piece.now mid.line (with_feed c.in-Some.line.now) c.loop-line.rest.now c.in-Some.after.now new.line
           (taken c.args.sink.now) (taken c.loop-line.sink) (taken c.end_line.new.sink) (c.loop-line.invariant.so_far line keeps) c.in-Some.ensures.whole c.in_ok-end_line.ensures.empty c.in_ok-end_line.ensures.fed;
     }
 
 pub returns-in_err-end_line-clause-stopped : goal.returns-in_err-end_line-clause-stopped
 returns-in_err-end_line-clause-stopped g c = on_err c.from_residual.result (λ line keeps.
-    let state = state_of g.K.Keeper.kept g.K.Keeper.faults in
     let taken = g.W.Sink.taken in
     let old = c.args.self.now in
     let mid = c.loop-line.self in
-    kept_so_far_stopped (state old.library) (state mid.library) (state c.end_line.new.self.library) line c.args.piece.now mid.line c.loop-line.rest.now (taken c.args.sink.now) (taken c.loop-line.sink) (taken c.end_line.new.sink) (c.loop-line.invariant.so_far line keeps)
-    (λ between kept. subst (λ (rest : List ℕ). Stopped (state mid.library) between rest (state c.end_line.new.self.library) (taken c.loop-line.sink) (taken c.end_line.new.sink)) (sym c.in-Some.ensures.whole) (c.in_err-end_line.ensures.stopped between c.in-Some.after.now kept)))
+    kept_so_far_stopped (state_of old.library) (state_of mid.library) (state_of c.end_line.new.self.library) line c.args.piece.now mid.line c.loop-line.rest.now (taken c.args.sink.now) (taken c.loop-line.sink) (taken c.end_line.new.sink) (c.loop-line.invariant.so_far line keeps)
+    (λ between kept. subst (λ (rest : List ℕ). Stopped (state_of mid.library) between rest (state_of c.end_line.new.self.library) (taken c.loop-line.sink) (taken c.end_line.new.sink)) (sym c.in-Some.ensures.whole) (c.in_err-end_line.ensures.stopped between c.in-Some.after.now kept)))
 
 pub returns-clause-fed : goal.returns-clause-fed
 returns-clause-fed g c = λ line keeps.
-    let state = state_of g.K.Keeper.kept g.K.Keeper.faults in
     let taken = g.W.Sink.taken in
     let old = c.args.self.now in
     let mid = c.loop-line.self in
-    kept_so_far_all (state old.library) (state mid.library) (state mid.library) line c.args.piece.now mid.line c.loop-line.rest.now c.keep.new.self (taken c.args.sink.now) (taken c.loop-line.sink) (c.loop-line.invariant.so_far line keeps) c.in_default.ensures.none refl c.keep.ensures
+    kept_so_far_all (state_of old.library) (state_of mid.library) (state_of mid.library) line c.args.piece.now mid.line c.loop-line.rest.now c.keep.new.self (taken c.args.sink.now) (taken c.loop-line.sink) (c.loop-line.invariant.so_far line keeps) c.in_default.ensures.none refl c.keep.ensures

@@ -8,8 +8,8 @@ abbrev pub invariant-loop-line : goal.invariant-loop-line
 invariant-loop-line g l = record {
   later : g.W.Sink.faults l.fn.sink ≤ g.W.Sink.faults l.sink;
   so_far : (line : List ℕ) → Keeps l.fn.self.line line
-      → KeptSoFar (state_of g.K.Keeper.kept g.K.Keeper.faults l.fn.self.library) line l.piece
-      (state_of g.K.Keeper.kept g.K.Keeper.faults l.self.library) l.self.line l.rest (g.W.Sink.taken l.fn.sink) (g.W.Sink.taken l.sink);
+      → KeptSoFar (state_of l.fn.self.library) line l.piece
+      (state_of l.self.library) l.self.line l.rest (g.W.Sink.taken l.fn.sink) (g.W.Sink.taken l.sink);
 }
 
 abbrev pub decreases-loop-line : goal.decreases-loop-line
