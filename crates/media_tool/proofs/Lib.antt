@@ -5,3 +5,4 @@ mod Runs
 mod WordLists
 mod Feeds
 mod Kept
+mod Rooms

@@ -1,5 +1,5 @@
 -- A session over the pieces that its source gives.
-use Rattle.std.proofs.Common.{◌≡◌, ◌⊎◌, ℕ, ◌+◌, ◌-◌, ◌<◌, ◌≤◌, List, [], ◌++◌, length, take, Bool, Option, refl, sym, ap, subst, ⊎_elim, arith}
+use Rattle.std.proofs.Common.{◌≡◌, ◌⊎◌, ℕ, ◌+◌, ◌-◌, ◌<◌, ◌≤◌, List, [], ◌++◌, length, take, Option, refl, sym, ◌∙◌, subst, ⊎_elim, arith}
 use Rattle.std.specs.Prelude.{◌↔◌}
 use Rattle.std.proofs.lemmas.List.{length-append, length-take-le, append-nil}
 use Rattle.media_base.specs.Keeping.{Readings}
@@ -15,7 +15,7 @@ use Rattle.media_tool.specs.Kept.{Keeps}
 use Rattle.media_tool.specs.Run.{SessionState}
 use Rattle.library_core.specs.declared.load_fail.LoadFail.{LoadFail}
 use Rattle.library_core.specs.declared.load_fail.LoadFail.TheVariants as fails
-use Rattle.media_tool.specs.Session.{AnswersNothing, HasOpened, Played, Plays, PlaysFrom, load_status}
+use Rattle.media_tool.specs.Session.{AnswersNothing, HasOpened, HasSameRoom, Played, Plays, PlaysFrom, load_status}
 use Rattle.media_tool.specs.declared.play.TheConstants.{MAX_INPUT}
 use Rattle.media_tool.proofs.Feeds.{fed_nothing, fed_more, ends_early, ends_stopped, stopped_after}
 use Rattle.media_tool.proofs.Kept.{keeps_nothing}
@@ -118,6 +118,11 @@ module _ {K : Type 0} (tells : Telling K) where
 
   pub plays_goes_on : (status : Status) (o s : SessionState K) (left next t u : Option (List ℕ)) → PlaysFrom tells o s status left next t u → GoesOn tells o s
   plays_goes_on status o s left next t u p = played_goes_on status o s p.given t u p.played
+
+  -- the room of the keeper that comes back
+  pub room_after : (old new : K) (o s : SessionState K) → HasSameRoom tells old o.keeper → GoesOn tells o s → new ≡ s.keeper → HasSameRoom tells old new
+  room_after old new o s first on last =
+      subst (λ (keeper : K). HasSameRoom tells old keeper) (sym last) record { limit = on.room.limit ∙ first.limit; units = on.room.units ∙ first.units }
 
   -- ---- a library that didn't open
 

@@ -1,5 +1,5 @@
 use Rattle.std.proofs.Common.{◌≡◌, ◌<◌, ◌≤◌, ℕ, subst, arith}
-use Rattle.media_tool.specs.Run.{state_of}
+use Rattle.media_tool.specs.Run.{state_of, telling}
 use Rattle.media_tool.proofs.Plays.{PlayedSoFar, so_far_start, so_far_piece, plays_write_fault, plays_too_long}
 use Rattle.media_tool.proofs.play.play_pieces.Goals as goal
 
@@ -40,4 +40,4 @@ returns-in-Ok-read_front-clause-plays g c =
     let none : c.loop-room.room ≡ 0 = omega (arith, c.loop-room-test.false) in
     let some : 0 < c.in-Ok-read_front.field-0 = omega (arith, c.in-Ok-read_front.field-0-test) in
     plays_too_long opening c.in-Ok-read_front.field-0 (state_of c.loop-room.session.library) c.loop-room.session.line c.read_front-2.new.chunk (left c.args.source.now) (left c.loop-room.source) (left c.read_front-2.new.source) (taken c.args.sink.now) (taken c.loop-room.sink) some
-    (subst (λ (room : ℕ). PlayedSoFar opening room (state_of c.loop-room.session.library) c.loop-room.session.line (left c.args.source.now) (left c.loop-room.source) (taken c.args.sink.now) (taken c.loop-room.sink)) none c.loop-room.invariant.so_far) c.in-Ok-read_front.ensures.reads
+    (subst (λ (room : ℕ). PlayedSoFar (telling g.K.Keeper.kept g.K.Keeper.alien g.K.Keeper.faults g.K.Keeper.used g.K.Keeper.units g.K.Keeper.limit) opening room (state_of c.loop-room.session.library) c.loop-room.session.line (left c.args.source.now) (left c.loop-room.source) (taken c.args.sink.now) (taken c.loop-room.sink)) none c.loop-room.invariant.so_far) c.in-Ok-read_front.ensures.reads

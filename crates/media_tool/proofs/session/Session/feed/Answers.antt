@@ -1,7 +1,7 @@
 use Rattle.std.proofs.Common.{List, ℕ, refl, sym, subst, arith}
 use Rattle.media_tool.specs.Feeding.{Stopped}
 use Rattle.media_tool.specs.Lines.{with_feed}
-use Rattle.media_tool.specs.Run.{state_of}
+use Rattle.media_tool.specs.Run.{state_of, telling}
 use Rattle.media_tool.proofs.Feeds.{on_err}
 use Rattle.media_tool.proofs.Kept.{kept_so_far_none, kept_so_far_more, kept_so_far_all, kept_so_far_stopped}
 use Rattle.media_tool.proofs.session.Session.feed.Goals as goal
@@ -30,7 +30,7 @@ returns-in_err-end_line-clause-stopped g c = on_err c.from_residual.result (λ l
     let old = c.args.self.now in
     let mid = c.loop-line.self in
     kept_so_far_stopped (state_of old.library) (state_of mid.library) (state_of c.end_line.new.self.library) line c.args.piece.now mid.line c.loop-line.rest.now (taken c.args.sink.now) (taken c.loop-line.sink) (taken c.end_line.new.sink) (c.loop-line.invariant.so_far line keeps)
-    (λ between kept. subst (λ (rest : List ℕ). Stopped (state_of mid.library) between rest (state_of c.end_line.new.self.library) (taken c.loop-line.sink) (taken c.end_line.new.sink)) (sym c.in-Some.ensures.whole) (c.in_err-end_line.ensures.stopped between c.in-Some.after.now kept)))
+    (λ between kept. subst (λ (rest : List ℕ). Stopped (telling g.K.Keeper.kept g.K.Keeper.alien g.K.Keeper.faults g.K.Keeper.used g.K.Keeper.units g.K.Keeper.limit) (state_of mid.library) between rest (state_of c.end_line.new.self.library) (taken c.loop-line.sink) (taken c.end_line.new.sink)) (sym c.in-Some.ensures.whole) (c.in_err-end_line.ensures.stopped between c.in-Some.after.now kept)))
 
 pub returns-clause-fed : goal.returns-clause-fed
 returns-clause-fed g c = λ line keeps.

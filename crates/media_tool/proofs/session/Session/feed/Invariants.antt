@@ -1,6 +1,6 @@
 use Rattle.std.proofs.Common.{◌≤◌, List, ℕ, length}
 use Rattle.media_tool.specs.Kept.{Keeps}
-use Rattle.media_tool.specs.Run.{state_of}
+use Rattle.media_tool.specs.Run.{state_of, telling}
 use Rattle.media_tool.proofs.Kept.{KeptSoFar}
 use Rattle.media_tool.proofs.session.Session.feed.Given as goal
 
@@ -8,7 +8,8 @@ abbrev pub invariant-loop-line : goal.invariant-loop-line
 invariant-loop-line g l = record {
   later : g.W.Sink.faults l.fn.sink ≤ g.W.Sink.faults l.sink;
   so_far : (line : List ℕ) → Keeps l.fn.self.line line
-      → KeptSoFar (state_of l.fn.self.library) line l.piece
+      → KeptSoFar (telling g.K.Keeper.kept g.K.Keeper.alien g.K.Keeper.faults g.K.Keeper.used g.K.Keeper.units g.K.Keeper.limit)
+      (state_of l.fn.self.library) line l.piece
       (state_of l.self.library) l.self.line l.rest (g.W.Sink.taken l.fn.sink) (g.W.Sink.taken l.sink);
 }
 
