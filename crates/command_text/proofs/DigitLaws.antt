@@ -1,12 +1,11 @@
 -- Hexadecimal digits are read as the bytes, and the words, that they spell.
 use Rattle.std.proofs.Common.{◌≡◌, ℕ, zero, suc, ◌*◌, ◌⊎◌, inl, inr, ◌<◌, ◌≤◌, nat_le, List, [], ◌∷◌, length, get_or, option_map, Result, Ok, Err, IsOk, refl, sym, ap, subst, ◌∙◌, arith}
-use Rattle.std.specs.Prelude.{All, Any}
+use Rattle.std.specs.Prelude.{Any}
 use Rattle.std.specs.List.{AllZip}
 use Rattle.std.specs.Int.{w64, from_be_bytes}
 use Rattle.std.specs.Option.{ok_or}
 use Rattle.std.specs.Result.{result_ok}
 use Rattle.std.proofs.lemmas.Bool.{leb-true, leb-false}
-use Rattle.std.proofs.lemmas.List.Elements.{All-nil, All-cons}
 use Rattle.hex.specs.declared.error.FromHexError.{FromHexError}
 use Rattle.hex.specs.Hex.{decode_of, decode_sized}
 use Rattle.hex.proofs.HexLemmas.{IsOk-decode_sized, decode_sized-twice, decode_of-same, decode_of-digits}
@@ -15,8 +14,8 @@ use Rattle.media_types.specs.declared.hash.Sha.{Sha}
 use Rattle.media_types.specs.declared.limits.TheConstants.{MAX_HASHES}
 use Rattle.media_base.specs.declared.refusal.Refusal.{Refusal}
 use Rattle.media_base.specs.declared.refusal.Refusal.TheVariants as refusals
-use Rattle.command_text.specs.Reading.{bytes_of, sha_of, word_of, words_of, few_hashes}
-use Rattle.command_text.specs.Spelling.{IsDigits, IsWordText}
+use Rattle.command_text.specs.Forms.{bytes_of, sha_of, word_of, words_of, few_hashes}
+use Rattle.command_text.specs.Spelling.{IsDigits, IsShaText, IsWordText}
 use Rattle.command_text.proofs.HexNumbers.{digits_number-bytes}
 use Rattle.command_text.proofs.Steps.{Tells, tells_like, tells_test}
 
@@ -62,11 +61,6 @@ module _ {A : Type 0} (count : ℕ) (made : List ℕ → A) (text : List ℕ) wh
   tells_bytes = tells_found (decode_sized text count) refl
 
 -- ---- a SHA-256
-
--- The text is 64 digits that spell its bytes.
-pub record IsShaText (text : List ℕ) (sha : Sha) : Type 0 where
-  pub digits : IsDigits 64 text
-  pub spell : decode_of text ≡ Ok sha.0
 
 pub tells_sha : (text : List ℕ) → Tells (sha_of text) refusals.BadHash (¬ (IsDigits 64 text)) (IsShaText text)
 unfolding sha_of
@@ -170,22 +164,6 @@ tells_words (text ∷ texts) =
       good = cons_good text texts first others;
       bad = cons_bad text texts first others;
     }
-
--- words are written by texts of 16 digits
-pub words_digits : (texts : List (List ℕ)) (words : List Hash64) → Words texts words → All (IsDigits 16) texts
-words_digits [] words p = All-nil (IsDigits 16)
-words_digits (text ∷ texts) [] p = absurd p
-words_digits (text ∷ texts) (word ∷ words) p = All-cons (IsDigits 16) text texts p.0.digits (words_digits texts words p.1)
-
-pub words_length : (texts : List (List ℕ)) (words : List Hash64) → Words texts words → length texts ≡ length words
-words_length [] [] p = refl
-words_length [] (word ∷ words) p = absurd p
-words_length (text ∷ texts) [] p = absurd p
-words_length (text ∷ texts) (word ∷ words) p = ap suc (words_length texts words p.1)
-
--- where all texts are 16 digits, none is bad
-pub digits_good : (texts : List (List ℕ)) → All (IsDigits 16) texts → Any NoWord texts → ⊥
-digits_good texts all p = p.4 (subst (IsDigits 16) p.3 (all p.0 p.1 p.2))
 
 -- lacks more than a file has
 pub tells_few : (words : List Hash64) → Tells (few_hashes words) refusals.TooManyHashes (MAX_HASHES < length words) (λ hashes. (hashes ≡ words) × (length words ≤ MAX_HASHES))

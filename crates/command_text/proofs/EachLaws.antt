@@ -4,7 +4,7 @@ use Rattle.std.proofs.lemmas.List.{at_drop_more, at_drop_all, append-nil, map-ap
 use Rattle.serde_json.specs.Data.{Data}
 use Rattle.serde_json.specs.View.{view, items_view}
 use Rattle.serde_json.specs.declared.value.Value.{Value}
-use Rattle.command_text.specs.Reading.{each_of}
+use Rattle.command_text.specs.Forms.{each_of}
 
 -- what the first items say and what the others say is what all of them say
 pub record IsReadTo {A : Type 0} (says : Data → Option A) (values : List Value) (i : ℕ) (before : List A) : Type 0 where

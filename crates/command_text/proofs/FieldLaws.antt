@@ -1,17 +1,22 @@
--- Each kind of field is read as what it says.
-use Rattle.std.proofs.Common.{◌≡◌, ℕ, ◌^◌, ◌<◌, inl, inr, List, [], ◌∷◌, map, Option, Some, None, option_map, option_and_then, refl, sym, ap, subst, ◌∙◌, arith}
+-- Each form of field is read as what it says.
+use Rattle.std.proofs.Common.{◌≡◌, ℕ, ◌^◌, ◌==◌, ◌<◌, ◌⊎◌, inl, inr, Bool, true, false, cond, List, [], ◌∷◌, map, Option, Some, None, option_map, option_and_then, refl, sym, ap, subst, ◌∙◌, arith}
 use Rattle.std.specs.Prelude.{All}
+use Rattle.std.specs.Option.{is_none}
+use Rattle.std.proofs.lemmas.Bool.{and_parts, eqb-true}
 use Rattle.std.proofs.lemmas.Bool.Decides.{nat_tests}
 use Rattle.std.proofs.lemmas.List.Elements.{All-nil, All-cons, All-head, All-tail}
 use Rattle.serde_json.specs.Data.{Data, null, boolean, number, string, array, object, Items, no_items, item, Num, unsigned, negative, float}
 use Rattle.serde_json.specs.Find.{as_str, as_number, as_u64, as_array}
 use Rattle.serde_json.specs.View.{items_of}
+use Rattle.media_types.specs.declared.decision.Code.TheVariants as codes_of
 use Rattle.media_types.specs.declared.numbers.FileNo.{FileNo}
 use Rattle.media_base.specs.declared.refusal.FieldName.{FieldName}
-use Rattle.media_base.specs.declared.refusal.FieldName.TheVariants as fields
-use Rattle.command_text.specs.Reading.{field_of, text_of, number_of, list_of, each_of, below, text_at, whole_number_at, texts_of, hash_texts_of, hash_texts_at, file_in, file_at, files_of, files_at}
-use Rattle.command_text.specs.Spelling.{HasField, HasText, HasNumber, HasFiles, HasHashTexts, HasForm}
-use Rattle.command_text.proofs.Steps.{Reads, reads_formed}
+use Rattle.media_base.specs.declared.refusal.Refusal.TheVariants as refusals
+use Rattle.command_text.specs.declared.asked_code.AskedCode.{AskedCode}
+use Rattle.command_text.specs.declared.asked_code.AskedCode.TheVariants as asked_codes
+use Rattle.command_text.specs.Forms.{field_of, text_of, number_of, list_of, each_of, below, texts_of, texts_if_any, file_in, files_of, asked_code, lacks_both, Form, a_text, a_number, a_file, texts_or_none, some_files, a_code, a_file_beside, Said, says, said_at}
+use Rattle.command_text.specs.Spelling.{HasField, HasText, HasNumber, HasFiles, code_number, HasFileBeside, Has, HasForm}
+use Rattle.command_text.proofs.Steps.{Tells, tells_formed}
 
 -- ---- options
 
@@ -73,13 +78,6 @@ text_of-some name value text e =
 pub text_of-has : (name : FieldName) (value : Data) (text : List ℕ) → HasText value name text → text_of name value ≡ Some text
 text_of-has name value text has = ap (λ (field : Option Data). option_and_then as_str field) has
 
--- a field of any text
-pub reads_text : (value : Data) (name : FieldName) → (HasForm value name → (text : List ℕ) × HasText value name text) → (((text : List ℕ) × HasText value name text) → HasForm value name)
-    → Reads value name (text_at name value) (HasText value name)
-unfolding text_at
-reads_text value name said form =
-    reads_formed value name (text_of name value) (HasText value name) (text_of-some name value) (text_of-has name value) said (λ text has. form (text, has))
-
 -- ---- whole numbers
 
 pub number_of-some : (name : FieldName) (value : Data) (n : ℕ) → number_of name value ≡ Some n → HasField value name (number (unsigned n))
@@ -103,17 +101,6 @@ number_below name limit value n e =
 number_below-has : (name : FieldName) (limit : ℕ) (value : Data) (n : ℕ) → HasNumber value name limit n → option_and_then (below limit) (number_of name value) ≡ Some n
 number_below-has name limit value n has =
     ap (option_and_then (below limit)) (number_of-has name value n has.is) ∙ below-fits limit n has.fits
-
--- The field is read as a whole number below the limit.
-abbrev pub ReadsNumber : Data → FieldName → ℕ → Type 0
-ReadsNumber value name limit = Reads value name (whole_number_at name limit value) (HasNumber value name limit)
-
-pub reads_number : (value : Data) (name : FieldName) (limit : ℕ)
-    → (HasForm value name → (n : ℕ) × HasNumber value name limit n) → (((n : ℕ) × HasNumber value name limit n) → HasForm value name)
-    → ReadsNumber value name limit
-unfolding whole_number_at
-reads_number value name limit said form =
-    reads_formed value name (option_and_then (below limit) (number_of name value)) (HasNumber value name limit) (number_below name limit value) (number_below-has name limit value) said (λ n has. form (n, has))
 
 -- ---- lists
 
@@ -161,17 +148,14 @@ file_in-some value file e =
 file_in-spelled : (file : FileNo) → FileFits file → file_in (file_data file) ≡ Some file
 file_in-spelled file fits = ap (option_map (λ n. record { 0 = n })) (below-fits (2 ^ 32) file.0 fits)
 
-file_field-some : (value : Data) (file : FileNo) → option_and_then file_in (field_of fields.File value) ≡ Some file → HasNumber value fields.File (2 ^ 32) file.0
-file_field-some value file e =
-    let p = then_some file_in (field_of fields.File value) file e in
+file-some : (value : Data) (name : FieldName) (file : FileNo) → option_and_then file_in (field_of name value) ≡ Some file → HasNumber value name (2 ^ 32) file.0
+file-some value name file e =
+    let p = then_some file_in (field_of name value) file e in
     let spelled = file_in-some p.0 file p.2 in
     record { is = p.1 ∙ ap Some spelled.0; fits = spelled.1 }
 
-pub reads_file : (value : Data) → Reads value fields.File (file_at value) (λ file. HasNumber value fields.File (2 ^ 32) file.0)
-unfolding file_at
-reads_file value =
-    reads_formed value fields.File (option_and_then file_in (field_of fields.File value)) (λ file. HasNumber value fields.File (2 ^ 32) file.0) (file_field-some value)
-    (λ file has. ap (option_and_then file_in) has.is ∙ file_in-spelled file has.fits) (λ form. (record { 0 = form.0 }, form.1)) (λ file has. (file.0, has))
+file-has : (value : Data) (name : FieldName) (file : FileNo) → HasNumber value name (2 ^ 32) file.0 → option_and_then file_in (field_of name value) ≡ Some file
+file-has value name file has = ap (option_and_then file_in) has.is ∙ file_in-spelled file has.fits
 
 files_in-some : (name : FieldName) (value : Data) (files : List FileNo) → option_and_then files_of (list_of name value) ≡ Some files → HasFiles value name files
 files_in-some name value files e =
@@ -185,11 +169,6 @@ files_in-has name value files has =
     ap (λ (field : Option Data). option_and_then files_of (option_and_then as_array field)) has.is
     ∙ each_of-spelled file_in file_data FileFits file_in-spelled files has.fit
 
-pub reads_files : (value : Data) → Reads value fields.Files (files_at value) (HasFiles value fields.Files)
-unfolding files_at
-reads_files value =
-    reads_formed value fields.Files (option_and_then files_of (list_of fields.Files value)) (HasFiles value fields.Files) (files_in-some fields.Files value) (files_in-has fields.Files value) (λ form. form) (λ files has. (files, has))
-
 -- ---- a list of texts that may be missing
 
 abbrev AnyText : List ℕ → Type 0
@@ -202,17 +181,99 @@ texts_of-some items texts e =
 texts_of-spelled : (texts : List (List ℕ)) → texts_of (items_of (map string texts)) ≡ Some texts
 texts_of-spelled texts = each_of-spelled as_str string AnyText (λ text any. refl) texts (λ k d within. tt)
 
-hash_texts-some : (value : Data) (field : Option Data) (texts : List (List ℕ)) → field_of fields.Hashes value ≡ field → hash_texts_of field ≡ Some texts → HasHashTexts value texts
-hash_texts-some value None texts is e = inr (is, sym (some_same [] texts e))
-hash_texts-some value (Some inner) texts is e =
+texts-some : (value : Data) (name : FieldName) (field : Option Data) (texts : List (List ℕ)) → field_of name value ≡ field → texts_if_any field ≡ Some texts → Has value name texts_or_none texts
+texts-some value name None texts is e = inr (is, sym (some_same [] texts e))
+texts-some value name (Some inner) texts is e =
     let p = then_some texts_of (as_array inner) texts e in
     inl (is ∙ ap Some (as_array-some inner p.0 p.1 ∙ ap array (texts_of-some p.0 texts p.2)))
 
-hash_texts-has : (value : Data) (texts : List (List ℕ)) → HasHashTexts value texts → hash_texts_of (field_of fields.Hashes value) ≡ Some texts
-hash_texts-has value texts (inl has) = ap hash_texts_of has ∙ texts_of-spelled texts
-hash_texts-has value texts (inr none) = ap hash_texts_of none.0 ∙ ap Some (sym none.1)
+texts-has : (value : Data) (name : FieldName) (texts : List (List ℕ)) → Has value name texts_or_none texts → texts_if_any (field_of name value) ≡ Some texts
+texts-has value name texts (inl has) = ap texts_if_any has ∙ texts_of-spelled texts
+texts-has value name texts (inr none) = ap texts_if_any none.0 ∙ ap Some (sym none.1)
 
-pub reads_hash_texts : (value : Data) → Reads value fields.Hashes (hash_texts_at value) (HasHashTexts value)
-unfolding hash_texts_at
-reads_hash_texts value =
-    reads_formed value fields.Hashes (hash_texts_of (field_of fields.Hashes value)) (HasHashTexts value) (λ texts e. hash_texts-some value (field_of fields.Hashes value) texts refl e) (hash_texts-has value) (λ form. form) (λ texts has. (texts, has))
+-- ---- codes
+
+chosen_code : (first second third fourth last : Bool) (a b c d e asked : AskedCode)
+    → cond first (Some a) (cond second (Some b) (cond third (Some c) (cond fourth (Some d) (cond last (Some e) None)))) ≡ Some asked
+    → ((first ≡ true) × (asked ≡ a)) ⊎ (((second ≡ true) × (asked ≡ b)) ⊎ (((third ≡ true) × (asked ≡ c)) ⊎ (((fourth ≡ true) × (asked ≡ d)) ⊎ ((last ≡ true) × (asked ≡ e)))))
+chosen_code true second third fourth last a b c d e asked h = inl (refl, cc h)
+chosen_code false true third fourth last a b c d e asked h = inr (inl (refl, cc h))
+chosen_code false false true fourth last a b c d e asked h = inr (inr (inl (refl, cc h)))
+chosen_code false false false true last a b c d e asked h = inr (inr (inr (inl (refl, cc h))))
+chosen_code false false false false true a b c d e asked h = inr (inr (inr (inr (refl, cc h))))
+chosen_code false false false false false a b c d e asked h = cc h
+
+asked_code-number : (n : ℕ) (asked : AskedCode) → asked_code n ≡ Some asked → n ≡ code_number asked
+asked_code-number n asked h =
+    elim (chosen_code (n == 1) (n == 2) (n == 3) (n == 4) (n == 7) _ _ _ _ _ asked h) [
+      | inl p ↦ eqb-true n 1 p.0 ∙ ap code_number (sym p.1)
+      | inr (inl p) ↦ eqb-true n 2 p.0 ∙ ap code_number (sym p.1)
+      | inr (inr (inl p)) ↦ eqb-true n 3 p.0 ∙ ap code_number (sym p.1)
+      | inr (inr (inr (inl p))) ↦ eqb-true n 4 p.0 ∙ ap code_number (sym p.1)
+      | inr (inr (inr (inr p))) ↦ eqb-true n 7 p.0 ∙ ap code_number (sym p.1)
+    ]
+
+code_number-asked : (asked : AskedCode) → asked_code (code_number asked) ≡ Some asked
+code_number-asked asked_codes.Worse = refl
+code_number-asked (asked_codes.As codes_of.NotRelated) = refl
+code_number-asked (asked_codes.As _) = refl
+
+code-some : (value : Data) (name : FieldName) (asked : AskedCode) → option_and_then asked_code (number_of name value) ≡ Some asked → Has value name a_code asked
+code-some value name asked e =
+    let p = then_some asked_code (number_of name value) asked e in
+    number_of-some name value p.0 p.1 ∙ ap (λ (n : ℕ). Some (number (unsigned n))) (asked_code-number p.0 asked p.2)
+
+-- ---- a file's number that may be missing
+
+is_none-true : {A : Type 0} (found : Option A) → is_none found ≡ true → found ≡ None
+is_none-true None e = refl
+is_none-true (Some x) e = cc e
+
+abbrev some_file : FieldName → Data → Option (Option FileNo)
+some_file name value = option_map (λ file. Some file) (option_and_then file_in (field_of name value))
+
+beside-some : (value : Data) (name other : FieldName) (lacks : Bool) (file : Option FileNo) → lacks_both name other value ≡ lacks
+    → cond lacks (Some None) (some_file name value) ≡ Some file → HasFileBeside value name other file
+beside-some value name other true file is e =
+    let parts = and_parts (is_none (field_of name value)) (is_none (field_of other value)) is in
+    subst (HasFileBeside value name other) (some_same None file e) (is_none-true (field_of name value) parts.0, is_none-true (field_of other value) parts.1)
+beside-some value name other false file is e =
+    let p = map_some (λ file. Some file) (option_and_then file_in (field_of name value)) file e in
+    subst (HasFileBeside value name other) p.2 (file-some value name p.0 p.1)
+
+none_lacks : (value : Data) (name other : FieldName) → HasFileBeside value name other None → lacks_both name other value ≡ true
+none_lacks value name other none = rw (none.0, none.1) refl
+
+some_lacks : (value : Data) (name other : FieldName) (inner : Data) → HasField value name inner → lacks_both name other value ≡ false
+some_lacks value name other inner has = rw has refl
+
+beside-has : (value : Data) (name other : FieldName) (file : Option FileNo) → HasFileBeside value name other file → says (a_file_beside other) name value ≡ Some file
+beside-has value name other None none =
+    ap (λ (lacks : Bool). cond lacks (Some None) (some_file name value)) (none_lacks value name other none)
+beside-has value name other (Some file) has =
+    ap (λ (lacks : Bool). cond lacks (Some None) (some_file name value)) (some_lacks value name other (number (unsigned file.0)) has.is)
+    ∙ ap (option_map (λ file. Some file)) (file-has value name file has)
+
+-- ---- all forms
+
+says-some : (value : Data) (name : FieldName) (form : Form) (x : Said form) → says form name value ≡ Some x → Has value name form x
+says-some value name a_text text e = text_of-some name value text e
+says-some value name (a_number limit) n e = number_below name limit value n e
+says-some value name a_file file e = file-some value name file e
+says-some value name texts_or_none texts e = texts-some value name (field_of name value) texts refl e
+says-some value name some_files files e = files_in-some name value files e
+says-some value name a_code asked e = code-some value name asked e
+says-some value name (a_file_beside other) file e = beside-some value name other (lacks_both name other value) file refl e
+
+says-has : (value : Data) (name : FieldName) (form : Form) (x : Said form) → Has value name form x → says form name value ≡ Some x
+says-has value name a_text text has = text_of-has name value text has
+says-has value name (a_number limit) n has = number_below-has name limit value n has
+says-has value name a_file file has = file-has value name file has
+says-has value name texts_or_none texts has = texts-has value name texts has
+says-has value name some_files files has = files_in-has name value files has
+says-has value name a_code asked has = ap (option_and_then asked_code) (number_of-has name value (code_number asked) has) ∙ code_number-asked asked
+says-has value name (a_file_beside other) file has = beside-has value name other file has
+
+pub tells_said : (value : Data) (name : FieldName) (form : Form) → Tells (said_at name form value) (refusals.NotARequest name) (¬ (HasForm value (name, form))) (Has value name form)
+unfolding said_at
+tells_said value name form = tells_formed name (says form name value) (Has value name form) (says-some value name form) (says-has value name form)

@@ -8,11 +8,11 @@ use Rattle.media_base.specs.declared.command.Command.{Command}
 use Rattle.media_base.specs.declared.refusal.Refusal.{Refusal}
 use Rattle.media_base.specs.declared.refusal.Refusal.TheVariants as refusals
 use Rattle.command_text.specs.Reading.{line_value, value_command, line_command}
+use Rattle.command_text.specs.Forms.{Test, is_sha, refusal_of}
 use Rattle.command_text.specs.declared.request.TheConstants.{MAX_LINE}
-use Rattle.command_text.specs.Spelling.{Fits, IsTextOf, HasNoReading, IsNoJson, Spells, IsOfReading, too_long, not_json, not_a_request, bad_hash, too_many_hashes, bad_distance, bad_number}
+use Rattle.command_text.specs.Spelling.{Asks, Fits, IsTextOf, HasNoReading, IsNoJson, Spells, SpellsUnfit, IsOfReading}
 use Rattle.command_text.proofs.Lines.{line_value-utf8, text_command-value, line_command-long, line_command-fits, long_or_fits}
-use Rattle.command_text.proofs.Meaning.{Asks, Earns, Means}
-use Rattle.command_text.proofs.ValueLaws.{means, meant}
+use Rattle.command_text.proofs.ValueLaws.{IsOfTest, test_refusal, Earns, Means, unfit_fails, unfit_test, means, meant}
 
 -- The line is refused for this.
 abbrev pub LineEarns : List ℕ → Refusal → Type 0
@@ -58,8 +58,8 @@ line_command-none line fits none =
 
 of_value : (line : List ℕ) (value : Data) (reading : Result Command Refusal) → Fits line → IsTextOf line value → Means value reading → LineMeans line reading
 of_value line value (Ok command) fits text asks = record { fits = fits; value = value; reads = text; asks = asks }
-of_value line value (Err refusals.LineTooLong) fits text none = absurd none
-of_value line value (Err refusals.NotJson) fits text none = absurd none
+of_value line value (Err refusals.LineTooLong) fits text unfit = absurd (unfit_test value refusals.LineTooLong unfit)
+of_value line value (Err refusals.NotJson) fits text unfit = absurd (unfit_test value refusals.NotJson unfit)
 of_value line value (Err why) fits text earns = record { fits = fits; value = value; reads = text; asks = earns }
 
 line_means : (line : List ℕ) → LineMeans line (line_command line)
@@ -87,15 +87,28 @@ line_meant line (Err why) s = spelled line (Err why) s
 pub line_law : (line : List ℕ) (reading : Result Command Refusal) → (line_command line ≡ reading) ↔ LineMeans line reading
 line_law line reading = (λ e. subst (LineMeans line) e (line_means line), line_meant line reading)
 
+-- the refusal of a test
+unfit_earns : (line : List ℕ) (why : Refusal) → IsOfTest why → LineEarns line why ≡ SpellsUnfit line why
+unfit_earns line refusals.LineTooLong is = absurd is
+unfit_earns line refusals.NotJson is = absurd is
+unfit_earns line (refusals.NotARequest field) is = absurd is
+unfit_earns line why is = refl
+
+pub unfit_law : (line : List ℕ) (test : Test) → (line_command line ≡ Err (refusal_of test)) ↔ SpellsUnfit line (refusal_of test)
+unfit_law line test =
+    subst (λ (Spelt : Type 0). (line_command line ≡ Err (refusal_of test)) ↔ Spelt) (unfit_earns line (refusal_of test) (test_refusal test)) (line_law line (Err (refusal_of test)))
+
+test_of_reading : (test : Test) → IsOfReading (refusal_of test)
+test_of_reading (is_sha text) = refl
+test_of_reading test = refl
+
 of_reading : (line : List ℕ) (why : Refusal) → LineEarns line why → IsOfReading why
-of_reading line refusals.LineTooLong earns = too_long refl
-of_reading line refusals.NotJson earns = not_json refl
-of_reading line (refusals.NotARequest field) earns = not_a_request field refl
-of_reading line refusals.BadHash earns = bad_hash refl
-of_reading line refusals.TooManyHashes earns = too_many_hashes refl
-of_reading line refusals.BadDistance earns = bad_distance refl
-of_reading line refusals.BadNumber earns = bad_number refl
-of_reading line why s = absurd s.asks
+of_reading line refusals.LineTooLong earns = refl
+of_reading line refusals.NotJson earns = refl
+of_reading line (refusals.NotARequest field) earns = refl
+of_reading line why s =
+    let p = unfit_fails s.value why s.asks in
+    subst IsOfReading (sym p.1) (test_of_reading p.0)
 
 pub no_other_law : (line : List ℕ) (why : Refusal) → line_command line ≡ Err why → IsOfReading why
 no_other_law line why e = of_reading line why ((line_law line (Err why)).0 e)

@@ -1,64 +1,75 @@
 -- The field `do` is read as the command whose name it is.
-use Rattle.std.proofs.Common.{◌≡◌, ℕ, ◌⊎◌, inl, inr, Bool, true, false, cond, List, [], ◌∷◌, Option, Some, None, option_and_then, refl, sym, ap, subst, ◌∙◌}
+use Rattle.std.proofs.Common.{◌≡◌, ℕ, ◌⊎◌, inl, inr, Bool, true, false, cond, List, [], ◌∷◌, Option, Some, None, option_and_then, Result, refl, ap, subst, ◌∙◌}
 use Rattle.std.specs.Str.{bytes_eq}
 use Rattle.std.proofs.lemmas.Slice.Eq.{bytes_eq-Decides}
 use Rattle.serde_json.specs.Data.{Data}
+use Rattle.media_base.specs.declared.command.Command.{Command}
 use Rattle.media_base.specs.declared.refusal.FieldName.TheVariants as fields
-use Rattle.command_text.specs.Reading.{text_of, name_of, name_at}
-use Rattle.command_text.specs.Spelling.{HasText, name_text, IsNamed}
-use Rattle.command_text.specs.declared.command_name.CommandName.{CommandName}
-use Rattle.command_text.specs.declared.command_name.CommandName.TheVariants as names
+use Rattle.media_base.specs.declared.refusal.Refusal.{Refusal}
+use Rattle.media_base.specs.declared.refusal.Refusal.TheVariants as refusals
+use Rattle.command_text.specs.Commands.{CommandName, search_names, all_names, request_of}
+use Rattle.command_text.specs.Forms.{◌>>=◌, formed, text_of, said_at, read_request}
+use Rattle.command_text.specs.Reading.{first_at, value_command}
+use Rattle.command_text.specs.Spelling.{HasText, IsNamed}
 use Rattle.command_text.proofs.FieldLaws.{then_some, text_of-some, text_of-has}
-use Rattle.command_text.proofs.Steps.{Reads, reads_formed}
+use Rattle.command_text.proofs.Steps.{Tells, tells_formed}
 
--- the names, in the order in which they are tried
-abbrev all_names : List CommandName
-all_names = names.Import ∷ names.Delete ∷ names.Undelete ∷ names.Decide ∷ names.Undo ∷ names.Relations ∷ names.Pairs ∷ names.PairCount ∷ names.SearchDistance ∷ names.SearchJob ∷ names.SearchFiles ∷ names.Queues ∷ names.RebalanceJob ∷ []
-
-abbrev first_of : List CommandName → List ℕ → Option CommandName
-first_of [] text = None
-first_of (name ∷ names) text = cond (bytes_eq text (name_text name)) (Some name) (first_of names text)
-
-name_of-first : (text : List ℕ) → name_of text ≡ first_of all_names text
-unfolding name_of
-name_of-first text = refl
+-- the first of the commands that has this name
+abbrev first_named : List CommandName → List ℕ → Option CommandName
+first_named [] text = None
+first_named (name ∷ names) text = cond (bytes_eq text (request_of name).text) (Some name) (first_named names text)
 
 chosen : (test : Bool) (name other : CommandName) (rest : Option CommandName) → cond test (Some name) rest ≡ Some other → ((test ≡ true) × (name ≡ other)) ⊎ (rest ≡ Some other)
 chosen true name other rest e = inl (refl, cc e)
 chosen false name other rest e = inr e
 
-first_of-some : (names : List CommandName) (text : List ℕ) (name : CommandName) → first_of names text ≡ Some name → text ≡ name_text name
-first_of-some [] text name e = cc e
-first_of-some (first ∷ names) text name e =
-    elim (chosen (bytes_eq text (name_text first)) first name (first_of names text) e) [
-      | inl p ↦ (bytes_eq-Decides text (name_text first)).0 p.0 ∙ ap name_text p.1
-      | inr later ↦ first_of-some names text name later
+first_named-some : (names : List CommandName) (text : List ℕ) (name : CommandName) → first_named names text ≡ Some name → text ≡ (request_of name).text
+first_named-some [] text name e = cc e
+first_named-some (first ∷ names) text name e =
+    elim (chosen (bytes_eq text (request_of first).text) first name (first_named names text) e) [
+      | inl p ↦ (bytes_eq-Decides text (request_of first).text).0 p.0 ∙ ap (λ (name : CommandName). (request_of name).text) p.1
+      | inr later ↦ first_named-some names text name later
     ]
 
-name_of-text : (name : CommandName) → name_of (name_text name) ≡ Some name
-unfolding name_of
-name_of-text names.Import = refl
-name_of-text names.Delete = refl
-name_of-text names.Undelete = refl
-name_of-text names.Decide = refl
-name_of-text names.Undo = refl
-name_of-text names.Relations = refl
-name_of-text names.Pairs = refl
-name_of-text names.PairCount = refl
-name_of-text names.SearchDistance = refl
-name_of-text names.SearchJob = refl
-name_of-text names.SearchFiles = refl
-name_of-text names.Queues = refl
-name_of-text names.RebalanceJob = refl
+-- by computation, in each case
+first_named-text : (name : CommandName) → first_named all_names (request_of name).text ≡ Some name
+unfolding search_names
+first_named-text CommandName.Import = refl
+first_named-text name = refl
 
-named-some : (value : Data) (name : CommandName) → option_and_then name_of (text_of fields.Do value) ≡ Some name → IsNamed value name
+named-some : (value : Data) (name : CommandName) → option_and_then (first_named all_names) (text_of fields.Do value) ≡ Some name → IsNamed value name
 named-some value name e =
-    let p = then_some name_of (text_of fields.Do value) name e in
-    let same = first_of-some all_names p.0 name (sym (name_of-first p.0) ∙ p.2) in
-    subst (λ (text : List ℕ). HasText value fields.Do text) same (text_of-some fields.Do value p.0 p.1)
+    let p = then_some (first_named all_names) (text_of fields.Do value) name e in
+    subst (λ (text : List ℕ). HasText value fields.Do text) (first_named-some all_names p.0 name p.2) (text_of-some fields.Do value p.0 p.1)
 
-pub reads_name : (value : Data) → Reads value fields.Do (name_at value) (IsNamed value)
-unfolding name_at
-reads_name value =
-    reads_formed value fields.Do (option_and_then name_of (text_of fields.Do value)) (IsNamed value) (named-some value)
-    (λ name named. ap (option_and_then name_of) (text_of-has fields.Do value (name_text name) named) ∙ name_of-text name) (λ form. form) (λ name named. (name, named))
+-- the name of a command
+abbrev pub name_at : Data → Result CommandName Refusal
+name_at value = formed fields.Do (option_and_then (first_named all_names) (text_of fields.Do value))
+
+pub tells_name : (value : Data) → Tells (name_at value) (refusals.NotARequest fields.Do) (¬ ((name : CommandName) × IsNamed value name)) (IsNamed value)
+tells_name value =
+    tells_formed fields.Do (option_and_then (first_named all_names) (text_of fields.Do value)) (IsNamed value) (named-some value)
+    (λ name named. ap (option_and_then (first_named all_names)) (text_of-has fields.Do value (request_of name).text named) ∙ first_named-text name)
+
+-- what is asked of a command, once it has a name
+abbrev pub asked_at : Data → CommandName → Result Command Refusal
+asked_at value name = read_request (request_of name) value
+
+module _ (value : Data) where
+  chosen_at : (test : Bool) (name : CommandName) (names : List CommandName) (text : List ℕ) → first_at names text value ≡ (formed fields.Do (first_named names text) >>= asked_at value)
+      → cond test (asked_at value name) (first_at names text value) ≡ (formed fields.Do (cond test (Some name) (first_named names text)) >>= asked_at value)
+  chosen_at true name names text later = refl
+  chosen_at false name names text later = later
+
+  first_at-named : (names : List CommandName) (text : List ℕ) → first_at names text value ≡ (formed fields.Do (first_named names text) >>= asked_at value)
+  first_at-named [] text = refl
+  first_at-named (name ∷ names) text = chosen_at (bytes_eq text (request_of name).text) name names text (first_at-named names text)
+
+  named_text : (found : Option (List ℕ)) → (formed fields.Do found >>= (λ text. first_at all_names text value)) ≡ (formed fields.Do (option_and_then (first_named all_names) found) >>= asked_at value)
+  named_text None = refl
+  named_text (Some text) = first_at-named all_names text
+
+-- the name is read, and then what is asked of its command
+pub value_command-named : (value : Data) → value_command value ≡ (name_at value >>= asked_at value)
+unfolding value_command said_at
+value_command-named value = named_text value (text_of fields.Do value)

@@ -1,16 +1,9 @@
 -- A step of reading gives a value of which something holds, or refuses for one cause.
 use Rattle.std.proofs.Common.{◌≡◌, ◌⊎◌, inl, inr, Bool, true, false, cond, Option, Some, None, Result, Ok, Err, refl, sym, ap, ◌∙◌}
-use Rattle.serde_json.specs.Data.{Data}
 use Rattle.media_base.specs.declared.refusal.FieldName.{FieldName}
 use Rattle.media_base.specs.declared.refusal.Refusal.{Refusal}
 use Rattle.media_base.specs.declared.refusal.Refusal.TheVariants as refusals
-use Rattle.command_text.specs.Reading.{◌>>=◌, formed}
-use Rattle.command_text.specs.Spelling.{HasForm}
-
--- two steps and then a third
-pub then_both : {A B C : Type 0} (reading : Result A Refusal) (f : A → Result B Refusal) (g : B → Result C Refusal) → ((reading >>= f) >>= g) ≡ (reading >>= (λ x. f x >>= g))
-then_both (Ok x) f g = refl
-then_both (Err why) f g = refl
+use Rattle.command_text.specs.Forms.{◌>>=◌, formed}
 
 -- It gives just the values that are good, and refuses where it is bad.
 pub record Tells {A : Type 0} (reading : Result A Refusal) (why : Refusal) (Bad : Type 0) (Good : A → Type 0) : Type 0 where
@@ -57,28 +50,17 @@ tells_then {A} {B} {reading} {why} {Bad} {Holds} {x} y tells = record {
 
 -- ---- a field
 
--- It gives just what the field says, and blames the field where that hasn't its form.
-pub record Reads {A : Type 0} (value : Data) (name : FieldName) (reading : Result A Refusal) (Says : A → Type 0) : Type 0 where
-  pub tells : Tells reading (refusals.NotARequest name) (¬ (HasForm value name)) Says
-  pub form : (x : A) → Says x → HasForm value name
-
 -- what is found is what the field says
-pub reads_formed : {A : Type 0} (value : Data) (name : FieldName) (found : Option A) (Says : A → Type 0)
-    → ((x : A) → found ≡ Some x → Says x) → ((x : A) → Says x → found ≡ Some x) → (HasForm value name → (x : A) × Says x) → ((x : A) → Says x → HasForm value name)
-    → Reads value name (formed name found) Says
-reads_formed value name None Says there back said form = record {
-  tells = record {
-    either = inl (λ p. let q = said p in cc (back q.0 q.1), refl);
-    good = λ x p. cc (back x p);
-    bad = λ lacks. refl;
-  };
-  form = form;
+pub tells_formed : {A : Type 0} (name : FieldName) (found : Option A) (Says : A → Type 0)
+    → ((x : A) → found ≡ Some x → Says x) → ((x : A) → Says x → found ≡ Some x)
+    → Tells (formed name found) (refusals.NotARequest name) (¬ ((x : A) × Says x)) Says
+tells_formed name None Says there back = record {
+  either = inl (λ p. cc (back p.0 p.1), refl);
+  good = λ x p. cc (back x p);
+  bad = λ lacks. refl;
 }
-reads_formed value name (Some x) Says there back said form = record {
-  tells = record {
-    either = inr (x, there x refl, refl);
-    good = λ y p. let e = back y p in cc e;
-    bad = λ lacks. absurd (lacks (form x (there x refl)));
-  };
-  form = form;
+tells_formed name (Some x) Says there back = record {
+  either = inr (x, there x refl, refl);
+  good = λ y p. let e = back y p in cc e;
+  bad = λ lacks. absurd (lacks (x, there x refl));
 }

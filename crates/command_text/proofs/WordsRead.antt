@@ -3,7 +3,7 @@ use Rattle.std.proofs.Common.{◌≡◌, ℕ, ◌+◌, ◌<◌, ◌≤◌, List,
 use Rattle.std.proofs.lemmas.List.{at_drop_more, at_drop_all, append-nil}
 use Rattle.media_types.specs.declared.hash.Hash64.{Hash64}
 use Rattle.media_base.specs.declared.refusal.Refusal.{Refusal}
-use Rattle.command_text.specs.Reading.{◌>>=◌, word_of, words_of}
+use Rattle.command_text.specs.Forms.{◌>>=◌, word_of, words_of}
 
 abbrev pub texts_at : List (Bor (List ℕ)) → List (List ℕ)
 texts_at texts = map (λ text. text.now) texts

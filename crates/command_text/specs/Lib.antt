@@ -1,2 +1,5 @@
+pub mod Commands
+pub mod Forms
 pub mod Reading
 pub mod Spelling
+pub mod Worked

@@ -1,5 +1,5 @@
 -- What it is for a line to spell a command, or to have a fault, in plain facts about the line.
-use Rattle.std.specs.Prelude.{◌≡◌, ℕ, ◌+◌, ◌*◌, ◌^◌, ◌<◌, ◌≤◌, ◌⊎◌, List, [], ◌∷◌, codes, length, map, fold, unwrap_or, Option, Some, None, Ok, All, Any}
+use Rattle.std.specs.Prelude.{◌≡◌, ℕ, ◌+◌, ◌*◌, ◌^◌, ◌<◌, ◌≤◌, ◌⊎◌, List, [], ◌∷◌, length, map, fold, unwrap_or, Option, Some, None, Ok, IsTrue, All, Any}
 use Rattle.std.specs.List.{AllPass, AllZip}
 use Rattle.std.specs.Str.{IsUtf8}
 use Rattle.hex.specs.Hex.{hex_digit_value, is_hex_digit, decode_of}
@@ -8,24 +8,21 @@ use Rattle.serde_json.specs.Find.{get}
 use Rattle.serde_json.specs.Read.{read}
 use Rattle.serde_json.specs.View.{items_of}
 use Rattle.media_types.specs.Batch.{IsBatch}
-use Rattle.media_types.specs.declared.decision.Code.{Code}
 use Rattle.media_types.specs.declared.decision.Code.TheVariants as codes_of
-use Rattle.media_types.specs.declared.decision.Decision.{Decision}
 use Rattle.media_types.specs.declared.hash.Hash64.{Hash64}
+use Rattle.media_types.specs.declared.hash.Sha.{Sha}
 use Rattle.media_types.specs.declared.limits.TheConstants.{MAX_DISTANCE, MAX_HASHES}
-use Rattle.media_types.specs.declared.new_file.NewFile.{NewFile}
-use Rattle.media_types.specs.declared.numbers.DecisionNo.{DecisionNo}
 use Rattle.media_types.specs.declared.numbers.FileNo.{FileNo}
-use Rattle.media_types.specs.declared.pair_page.PairPage.{PairPage}
-use Rattle.media_types.specs.declared.searching.Searching.{Searching}
+use Rattle.media_base.specs.declared.command.Command.{Command}
 use Rattle.media_base.specs.declared.refusal.FieldName.{FieldName}
 use Rattle.media_base.specs.declared.refusal.FieldName.TheVariants as fields
 use Rattle.media_base.specs.declared.refusal.Refusal.{Refusal}
-use Rattle.media_base.specs.declared.refusal.Refusal.TheVariants as refusals
-use Rattle.media_base.specs.Names.{field_text}
-use Rattle.command_text.specs.declared.command_name.CommandName.{CommandName}
-use Rattle.command_text.specs.declared.command_name.CommandName.TheVariants as names
+use Rattle.media_base.specs.Names.{field_text, refusal_row}
+use Rattle.command_text.specs.declared.asked_code.AskedCode.{AskedCode}
+use Rattle.command_text.specs.declared.asked_code.AskedCode.TheVariants as asked_codes
 use Rattle.command_text.specs.declared.request.TheConstants.{MAX_LINE}
+use Rattle.command_text.specs.Commands.{CommandName, request_of}
+use Rattle.command_text.specs.Forms.{Form, a_text, a_number, a_file, texts_or_none, some_files, a_code, a_file_beside, Said, Field, Test, is_sha, are_words, are_few, is_near, is_batch, is_file_batch, Made, refusal_of, Asking, asks, tests, Asked}
 
 -- ---- a line
 
@@ -76,15 +73,6 @@ pub record HasFiles (value : Data) (name : FieldName) (files : List FileNo) : Ty
   pub is : HasField value name (array (items_of (map (λ file. number (unsigned file.0)) files)))
   pub fit : All (λ file. file.0 < 2 ^ 32) files
 
--- Neither of the two fields of a place is there.
-abbrev pub HasNoPlace : Data → Type 0
-HasNoPlace value = HasNoField value fields.AfterJ × HasNoField value fields.AfterK
-
--- The fields `after_j` and `after_k` are the two numbers of this place; where there is none, both are missing.
-abbrev pub HasPlace : Data → Option (FileNo × FileNo) → Type 0
-HasPlace value None = HasNoPlace value
-HasPlace value (Some place) = HasNumber value fields.AfterJ (2 ^ 32) place.0.0 × HasNumber value fields.AfterK (2 ^ 32) place.1.0
-
 -- ---- hexadecimal digits
 
 -- The text is so many hexadecimal digits, of either case.
@@ -92,12 +80,10 @@ pub record IsDigits (count : ℕ) (text : List ℕ) : Type 0 where
   pub as_many : length text ≡ count
   pub hexadecimal : AllPass is_hex_digit text
 
--- The field is a text of 64 hexadecimal digits that spell these bytes.
-pub record HasDigits (value : Data) (name : FieldName) (bytes : List ℕ) : Type 0 where
-  pub text : List ℕ
-  pub is : HasText value name text
+-- The text is 64 hexadecimal digits that spell its bytes.
+pub record IsShaText (text : List ℕ) (sha : Sha) : Type 0 where
   pub digits : IsDigits 64 text
-  pub spell : decode_of text ≡ Ok bytes
+  pub spell : decode_of text ≡ Ok sha.0
 
 -- the number that hexadecimal digits write, the first of them the highest
 abbrev pub digits_number : List ℕ → ℕ
@@ -108,263 +94,124 @@ pub record IsWordText (text : List ℕ) (word : Hash64) : Type 0 where
   pub digits : IsDigits 16 text
   pub write : digits_number text ≡ word.0
 
--- The field `hashes` is the list of these texts; where it is missing there are none.
-abbrev pub HasHashTexts : Data → List (List ℕ) → Type 0
-HasHashTexts value texts = HasTexts value fields.Hashes texts ⊎ (HasNoField value fields.Hashes × (texts ≡ []))
+-- ---- what a field says
 
--- The texts of the field `hashes` write these words, no more than a file has.
-pub record HasHashes (value : Data) (words : List Hash64) : Type 0 where
-  pub texts : List (List ℕ)
-  pub are : HasHashTexts value texts
-  pub write : AllZip IsWordText texts words
-  pub few : length words ≤ MAX_HASHES
+-- the number of a decision's code; 7 is the better one named second
+abbrev pub code_number : AskedCode → ℕ
+code_number (asked_codes.As codes_of.NotRelated) = 1
+code_number (asked_codes.As codes_of.Same) = 2
+code_number (asked_codes.As codes_of.Alternates) = 3
+code_number (asked_codes.As codes_of.Better) = 4
+code_number asked_codes.Worse = 7
+
+-- The field is this file's number; where it is none, this field and the other are missing.
+abbrev pub HasFileBeside : Data → FieldName → FieldName → Option FileNo → Type 0
+HasFileBeside value name other None = HasNoField value name × HasNoField value other
+HasFileBeside value name other (Some file) = HasNumber value name (2 ^ 32) file.0
+
+-- The field has this form, and says this.
+abbrev pub Has : (value : Data) (name : FieldName) (form : Form) → Said form → Type 0
+Has value name a_text text = HasText value name text
+Has value name (a_number limit) n = HasNumber value name limit n
+Has value name a_file file = HasNumber value name (2 ^ 32) file.0
+Has value name texts_or_none texts = HasTexts value name texts ⊎ (HasNoField value name × (texts ≡ []))
+Has value name some_files files = HasFiles value name files
+Has value name a_code asked = HasField value name (number (unsigned (code_number asked)))
+Has value name (a_file_beside other) file = HasFileBeside value name other file
+
+-- what fields of these forms say
+abbrev pub AllSaid : List Field → Type 0
+AllSaid [] = Unit {0}
+AllSaid (field ∷ fields) = Said field.1 × AllSaid fields
+
+-- The fields have their forms, and say this.
+abbrev pub HasAll : (value : Data) (fields : List Field) → AllSaid fields → Type 0
+HasAll value [] said = Unit {0}
+HasAll value (field ∷ fields) said = Has value field.0 field.1 said.0 × HasAll value fields said.1
+
+-- what is asked with this
+abbrev pub asked_with : (fields : List Field) → Asked fields → AllSaid fields → Asking
+asked_with [] asking said = asking
+asked_with (field ∷ fields) asked said = asked_with fields (asked said.0) said.1
+
+-- ---- what the tests say
+
+-- What is tested is good, and this is made of it.
+abbrev pub IsGood : (test : Test) → Made test → Type 0
+IsGood (is_sha text) sha = IsShaText text sha
+IsGood (are_words texts) words = AllZip IsWordText texts words
+IsGood (are_few words) hashes = (hashes ≡ words) × (length words ≤ MAX_HASHES)
+IsGood (is_near n) distance = (distance ≡ n) × (n ≤ MAX_DISTANCE)
+IsGood (is_batch n) size = (size ≡ n) × IsBatch n
+IsGood (is_file_batch files) batch = (batch ≡ files) × IsBatch (length files)
+
+-- What is tested is bad.
+abbrev pub IsBad : Test → Type 0
+IsBad (is_sha text) = ¬ (IsDigits 64 text)
+IsBad (are_words texts) = Any (λ text. ¬ (IsDigits 16 text)) texts
+IsBad (are_few words) = MAX_HASHES < length words
+IsBad (is_near n) = MAX_DISTANCE < n
+IsBad (is_batch n) = ¬ (IsBatch n)
+IsBad (is_file_batch files) = ¬ (IsBatch (length files))
+
+-- All tests are passed, and this is the command.
+abbrev pub Passes : Asking → Command → Type 0
+Passes (asks asked) command = asked ≡ command
+Passes (tests test next) command = (x : Made test) × IsGood test x × Passes (next x) command
+
+-- The first test that isn't passed has this refusal.
+abbrev pub Fails : Asking → Refusal → Type 0
+Fails (asks asked) why = ⊥
+Fails (tests test next) why = (IsBad test × (why ≡ refusal_of test)) ⊎ ((x : Made test) × IsGood test x × Fails (next x) why)
 
 -- ---- what a value asks
 
--- as `do` has it
-abbrev pub name_text : CommandName → List ℕ
-name_text names.Import = codes "import"
-name_text names.Delete = codes "delete"
-name_text names.Undelete = codes "undelete"
-name_text names.Decide = codes "decide"
-name_text names.Undo = codes "undo"
-name_text names.Relations = codes "relations"
-name_text names.Pairs = codes "pairs"
-name_text names.PairCount = codes "pair_count"
-name_text names.SearchDistance = codes "search_distance"
-name_text names.SearchJob = codes "search_job"
-name_text names.SearchFiles = codes "search_files"
-name_text names.Queues = codes "queues"
-name_text names.RebalanceJob = codes "rebalance_job"
-
 -- The field `do` is the command's name.
 abbrev pub IsNamed : Data → CommandName → Type 0
-IsNamed value name = HasText value fields.Do (name_text name)
+IsNamed value name = HasText value fields.Do (request_of name).text
 
-pub record AsksImport (value : Data) (file : NewFile) : Type 0 where
-  pub asks : IsNamed value names.Import
-  pub sha : HasDigits value fields.Sha256 file.sha.0
-  pub hashes : HasHashes value file.hashes
-  pub size : HasNumber value fields.Size (2 ^ 64) file.size
-  pub width : HasNumber value fields.Width (2 ^ 32) file.width
-  pub height : HasNumber value fields.Height (2 ^ 32) file.height
+-- `do` names a command, and its fields have their forms and say what makes this.
+pub record HasForms (value : Data) (Is : Asking → Type 0) : Type 0 where
+  pub name : CommandName
+  pub named : IsNamed value name
+  pub said : AllSaid (request_of name).fields
+  pub has : HasAll value (request_of name).fields said
+  pub is : Is (asked_with (request_of name).fields (request_of name).asked said)
 
--- `do` is the command's name, and `file` is this file.
-pub record AsksFile (value : Data) (name : CommandName) (asked : FileNo) : Type 0 where
-  pub asks : IsNamed value name
-  pub file : HasNumber value fields.File (2 ^ 32) asked.0
+-- The value asks this command.
+abbrev pub Asks : Data → Command → Type 0
+Asks value command = HasForms value (λ asking. Passes asking command)
 
--- The field `code` is this number.
-abbrev pub HasCode : Data → ℕ → Type 0
-HasCode value n = HasField value fields.Code (number (unsigned n))
+-- All fields have their forms, and the first test that isn't passed has this refusal.
+abbrev pub IsUnfit : Data → Refusal → Type 0
+IsUnfit value why = HasForms value (λ asking. Fails asking why)
 
--- `code` is this number, `a` the first file and `b` the second.
-pub record NamesFiles (value : Data) (n : ℕ) (first second : FileNo) : Type 0 where
-  pub code : HasCode value n
-  pub a : HasNumber value fields.A (2 ^ 32) first.0
-  pub b : HasNumber value fields.B (2 ^ 32) second.0
+-- ---- what is wrong with a field
 
--- The fields say this of the two files: better by 4, or by 7, worse, with the files the other way round.
-abbrev pub Says : Data → Code → FileNo → FileNo → Type 0
-Says value codes_of.NotRelated first second = NamesFiles value 1 first second
-Says value codes_of.Same first second = NamesFiles value 2 first second
-Says value codes_of.Alternates first second = NamesFiles value 3 first second
-Says value codes_of.Better first second = NamesFiles value 4 first second ⊎ NamesFiles value 7 second first
-
-pub record AsksDecide (value : Data) (decision : Decision) : Type 0 where
-  pub asks : IsNamed value names.Decide
-  pub says : Says value decision.code decision.a decision.b
-
-pub record AsksUndo (value : Data) (asked : DecisionNo) : Type 0 where
-  pub asks : IsNamed value names.Undo
-  pub decision : HasNumber value fields.Decision (2 ^ 32) asked.0
-
-pub record AsksPairs (value : Data) (asked : PairPage) : Type 0 where
-  pub asks : IsNamed value names.Pairs
-  pub after : HasPlace value asked.after
-  pub n : HasNumber value fields.N (2 ^ 64) asked.n
-  pub at_most : HasNumber value fields.AtMost (2 ^ 64) asked.at_most
-  pub small : asked.at_most ≤ MAX_DISTANCE
-  pub batch : IsBatch asked.n
-
-pub record AsksPairCount (value : Data) (asked : ℕ) : Type 0 where
-  pub asks : IsNamed value names.PairCount
-  pub at_most : HasNumber value fields.AtMost (2 ^ 64) asked
-  pub small : asked ≤ MAX_DISTANCE
-
-pub record AsksSearchDistance (value : Data) (asked : ℕ) : Type 0 where
-  pub asks : IsNamed value names.SearchDistance
-  pub distance : HasNumber value fields.Distance (2 ^ 64) asked
-  pub small : asked ≤ MAX_DISTANCE
-
-pub record AsksSearchJob (value : Data) (asked : ℕ) : Type 0 where
-  pub asks : IsNamed value names.SearchJob
-  pub n : HasNumber value fields.N (2 ^ 64) asked
-  pub batch : IsBatch asked
-
-pub record AsksSearchFiles (value : Data) (asked : Searching) : Type 0 where
-  pub asks : IsNamed value names.SearchFiles
-  pub files : HasFiles value fields.Files asked.files
-  pub distance : HasNumber value fields.Distance (2 ^ 64) asked.distance
-  pub small : asked.distance ≤ MAX_DISTANCE
-  pub batch : IsBatch (length asked.files)
-
--- ---- what is wrong with a value
-
--- The field has the form that its command wants. The two fields of a place are both there or both missing.
-abbrev pub HasForm : Data → FieldName → Type 0
-HasForm value fields.Do = (name : CommandName) × IsNamed value name
-HasForm value fields.Sha256 = (text : List ℕ) × HasText value fields.Sha256 text
-HasForm value fields.Hashes = (texts : List (List ℕ)) × HasHashTexts value texts
-HasForm value fields.Size = (n : ℕ) × HasNumber value fields.Size (2 ^ 64) n
-HasForm value fields.Width = (n : ℕ) × HasNumber value fields.Width (2 ^ 32) n
-HasForm value fields.Height = (n : ℕ) × HasNumber value fields.Height (2 ^ 32) n
-HasForm value fields.Code = HasCode value 1 ⊎ (HasCode value 2 ⊎ (HasCode value 3 ⊎ (HasCode value 4 ⊎ HasCode value 7)))
-HasForm value fields.A = (n : ℕ) × HasNumber value fields.A (2 ^ 32) n
-HasForm value fields.B = (n : ℕ) × HasNumber value fields.B (2 ^ 32) n
-HasForm value fields.File = (n : ℕ) × HasNumber value fields.File (2 ^ 32) n
-HasForm value fields.Decision = (n : ℕ) × HasNumber value fields.Decision (2 ^ 32) n
-HasForm value fields.Files = (files : List FileNo) × HasFiles value fields.Files files
-HasForm value fields.Distance = (n : ℕ) × HasNumber value fields.Distance (2 ^ 64) n
-HasForm value fields.N = (n : ℕ) × HasNumber value fields.N (2 ^ 64) n
-HasForm value fields.AfterJ = HasNoPlace value ⊎ ((n : ℕ) × HasNumber value fields.AfterJ (2 ^ 32) n)
-HasForm value fields.AfterK = HasNoPlace value ⊎ ((n : ℕ) × HasNumber value fields.AfterK (2 ^ 32) n)
-HasForm value fields.AtMost = (n : ℕ) × HasNumber value fields.AtMost (2 ^ 64) n
-
--- the fields of each command, in their order
-abbrev pub fields_of : CommandName → List FieldName
-fields_of names.Import = fields.Sha256 ∷ fields.Hashes ∷ fields.Size ∷ fields.Width ∷ fields.Height ∷ []
-fields_of names.Delete = fields.File ∷ []
-fields_of names.Undelete = fields.File ∷ []
-fields_of names.Decide = fields.Code ∷ fields.A ∷ fields.B ∷ []
-fields_of names.Undo = fields.Decision ∷ []
-fields_of names.Relations = fields.File ∷ []
-fields_of names.Pairs = fields.AfterJ ∷ fields.AfterK ∷ fields.N ∷ fields.AtMost ∷ []
-fields_of names.PairCount = fields.AtMost ∷ []
-fields_of names.SearchDistance = fields.Distance ∷ []
-fields_of names.SearchJob = fields.N ∷ []
-fields_of names.SearchFiles = fields.Files ∷ fields.Distance ∷ []
-fields_of names.Queues = []
-fields_of names.RebalanceJob = []
+-- The field has its form.
+abbrev pub HasForm : Data → Field → Type 0
+HasForm value field = (x : Said field.1) × Has value field.0 field.1 x
 
 -- It is the first of these fields that hasn't its form.
-abbrev pub IsFirstOf : Data → List FieldName → FieldName → Type 0
-IsFirstOf value [] field = ⊥
-IsFirstOf value (name ∷ names) field = ((field ≡ name) × ¬ (HasForm value name)) ⊎ (HasForm value name × IsFirstOf value names field)
+abbrev pub IsFirstOf : Data → List Field → FieldName → Type 0
+IsFirstOf value [] name = ⊥
+IsFirstOf value (field ∷ fields) name = ((name ≡ field.0) × ¬ (HasForm value field)) ⊎ (HasForm value field × IsFirstOf value fields name)
 
 -- The field is the first, in the order of the command that `do` names, that hasn't its form; it is `do` where that names none.
 pub data IsFirstFault (value : Data) (field : FieldName) : Type 0 where
-  of_none : field ≡ fields.Do → ¬ (HasForm value fields.Do) → IsFirstFault value field
-  of_command : (name : CommandName) → IsNamed value name → IsFirstOf value (fields_of name) field → IsFirstFault value field
-
--- It asks an import, `sha256` is this text, `hashes` are these texts, and the numbers have their forms.
-pub record HasImportForms (value : Data) (text : List ℕ) (texts : List (List ℕ)) : Type 0 where
-  pub asks : IsNamed value names.Import
-  pub sha : HasText value fields.Sha256 text
-  pub hashes : HasHashTexts value texts
-  pub size : HasForm value fields.Size
-  pub width : HasForm value fields.Width
-  pub height : HasForm value fields.Height
-
--- Each field has its form, and the SHA-256 isn't 64 digits or a hash isn't 16.
-pub record HasBadHash (value : Data) : Type 0 where
-  pub text : List ℕ
-  pub texts : List (List ℕ)
-  pub forms : HasImportForms value text texts
-  pub bad : ¬ (IsDigits 64 text) ⊎ Any (λ digits. ¬ (IsDigits 16 digits)) texts
-
--- All digits are there, of more hashes than a file has.
-pub record HasTooManyHashes (value : Data) : Type 0 where
-  pub text : List ℕ
-  pub texts : List (List ℕ)
-  pub forms : HasImportForms value text texts
-  pub sha : IsDigits 64 text
-  pub hashes : All (IsDigits 16) texts
-  pub many : MAX_HASHES < length texts
-
--- The field is a whole number over the greatest distance.
-pub record IsFarther (value : Data) (name : FieldName) : Type 0 where
-  pub n : ℕ
-  pub is : HasNumber value name (2 ^ 64) n
-  pub far : MAX_DISTANCE < n
-
--- It asks for pairs, the two numbers are these, and the place has its form.
-pub record HasPairsForms (value : Data) (number farthest : ℕ) : Type 0 where
-  pub asks : IsNamed value names.Pairs
-  pub place : Option (FileNo × FileNo)
-  pub after : HasPlace value place
-  pub n : HasNumber value fields.N (2 ^ 64) number
-  pub at_most : HasNumber value fields.AtMost (2 ^ 64) farthest
-
--- Each field has its form, and the distance is too great.
-pub data HasBadDistance (value : Data) : Type 0 where
-  far_pairs : (number farthest : ℕ) → HasPairsForms value number farthest → MAX_DISTANCE < farthest → HasBadDistance value
-  far_pair_count : IsNamed value names.PairCount → IsFarther value fields.AtMost → HasBadDistance value
-  far_search_distance : IsNamed value names.SearchDistance → IsFarther value fields.Distance → HasBadDistance value
-  far_search_files : IsNamed value names.SearchFiles → HasForm value fields.Files → IsFarther value fields.Distance → HasBadDistance value
-
--- Nothing else is wrong, and a number of things to do at once is 0 or too great.
-pub data HasBadNumber (value : Data) : Type 0 where
-  wrong_pairs : (number farthest : ℕ) → HasPairsForms value number farthest → farthest ≤ MAX_DISTANCE → ¬ (IsBatch number) → HasBadNumber value
-  wrong_search_job : IsNamed value names.SearchJob → (n : ℕ) → HasNumber value fields.N (2 ^ 64) n → ¬ (IsBatch n) → HasBadNumber value
-  wrong_search_files : IsNamed value names.SearchFiles → (files : List FileNo) → HasFiles value fields.Files files → ¬ (IsBatch (length files))
-      → (distance : ℕ) → HasNumber value fields.Distance (2 ^ 64) distance → distance ≤ MAX_DISTANCE → HasBadNumber value
+  of_none : field ≡ fields.Do → ((name : CommandName) → ¬ (IsNamed value name)) → IsFirstFault value field
+  of_command : (name : CommandName) → IsNamed value name → IsFirstOf value (request_of name).fields field → IsFirstFault value field
 
 -- ---- what a line spells
 
-abbrev pub SpellsImport : List ℕ → NewFile → Type 0
-SpellsImport line file = Spells line (λ value. AsksImport value file)
-
-abbrev pub SpellsDelete : List ℕ → FileNo → Type 0
-SpellsDelete line file = Spells line (λ value. AsksFile value names.Delete file)
-
-abbrev pub SpellsUndelete : List ℕ → FileNo → Type 0
-SpellsUndelete line file = Spells line (λ value. AsksFile value names.Undelete file)
-
-abbrev pub SpellsDecide : List ℕ → Decision → Type 0
-SpellsDecide line decision = Spells line (λ value. AsksDecide value decision)
-
-abbrev pub SpellsUndo : List ℕ → DecisionNo → Type 0
-SpellsUndo line decision = Spells line (λ value. AsksUndo value decision)
-
-abbrev pub SpellsRelations : List ℕ → FileNo → Type 0
-SpellsRelations line file = Spells line (λ value. AsksFile value names.Relations file)
-
-abbrev pub SpellsPairs : List ℕ → PairPage → Type 0
-SpellsPairs line page = Spells line (λ value. AsksPairs value page)
-
-abbrev pub SpellsPairCount : List ℕ → ℕ → Type 0
-SpellsPairCount line distance = Spells line (λ value. AsksPairCount value distance)
-
-abbrev pub SpellsSearchDistance : List ℕ → ℕ → Type 0
-SpellsSearchDistance line distance = Spells line (λ value. AsksSearchDistance value distance)
-
-abbrev pub SpellsSearchJob : List ℕ → ℕ → Type 0
-SpellsSearchJob line n = Spells line (λ value. AsksSearchJob value n)
-
-abbrev pub SpellsSearchFiles : List ℕ → Searching → Type 0
-SpellsSearchFiles line searching = Spells line (λ value. AsksSearchFiles value searching)
-
-abbrev pub SpellsQueues : List ℕ → Type 0
-SpellsQueues line = Spells line (λ value. IsNamed value names.Queues)
-
-abbrev pub SpellsRebalanceJob : List ℕ → Type 0
-SpellsRebalanceJob line = Spells line (λ value. IsNamed value names.RebalanceJob)
+abbrev pub SpellsCommand : List ℕ → Command → Type 0
+SpellsCommand line command = Spells line (λ value. Asks value command)
 
 abbrev pub SpellsFault : List ℕ → FieldName → Type 0
 SpellsFault line field = Spells line (λ value. IsFirstFault value field)
 
-abbrev pub SpellsBadHash : List ℕ → Type 0
-SpellsBadHash line = Spells line HasBadHash
-
-abbrev pub SpellsTooManyHashes : List ℕ → Type 0
-SpellsTooManyHashes line = Spells line HasTooManyHashes
-
-abbrev pub SpellsBadDistance : List ℕ → Type 0
-SpellsBadDistance line = Spells line HasBadDistance
-
-abbrev pub SpellsBadNumber : List ℕ → Type 0
-SpellsBadNumber line = Spells line HasBadNumber
+abbrev pub SpellsUnfit : List ℕ → Refusal → Type 0
+SpellsUnfit line why = Spells line (λ value. IsUnfit value why)
 
 -- The line isn't too long, and is no JSON.
 pub record IsNoJson (line : List ℕ) : Type 0 where
@@ -372,11 +219,5 @@ pub record IsNoJson (line : List ℕ) : Type 0 where
   pub no_reading : HasNoReading line
 
 -- It is one of the refusals that reading gives.
-pub data IsOfReading (why : Refusal) : Type 0 where
-  too_long : why ≡ refusals.LineTooLong → IsOfReading why
-  not_json : why ≡ refusals.NotJson → IsOfReading why
-  not_a_request : (field : FieldName) → why ≡ refusals.NotARequest field → IsOfReading why
-  bad_hash : why ≡ refusals.BadHash → IsOfReading why
-  too_many_hashes : why ≡ refusals.TooManyHashes → IsOfReading why
-  bad_distance : why ≡ refusals.BadDistance → IsOfReading why
-  bad_number : why ≡ refusals.BadNumber → IsOfReading why
+abbrev pub IsOfReading : Refusal → Type 0
+IsOfReading why = IsTrue (refusal_row why).of_reading

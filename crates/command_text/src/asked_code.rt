@@ -1,5 +1,5 @@
 ghost use Rattle.std.specs.Prelude.{◌≡◌};
-ghost use Rattle.command_text.specs.Reading.{asked_code, decision_of};
+ghost use Rattle.command_text.specs.Forms.{asked_code, decision_of};
 
 use media_base::{Code, Decision, FileNo};
 

@@ -1,35 +1,35 @@
 //! Decisions, and their undoing.
+#![tactic(auto, unfolding(crate::specs::Forms::read_request))]
 
 ghost use Rattle.serde_json.specs.View.{view};
-ghost use Rattle.command_text.specs.Reading.{Gives, code_at, decide_at, undo_at};
+ghost use Rattle.command_text.specs.Commands.{CommandName, request_of};
+ghost use Rattle.command_text.specs.Forms.{Gives, read_request, said_at, a_code};
 
 use crate::asked_code::AskedCode;
-use crate::fields::{number, small_number};
-use media_base::{Command, DecisionNo, FieldName, FileNo, Refusal};
+use crate::fields::{file, number, small_number};
+use media_base::{Command, DecisionNo, FieldName, Refusal};
 use serde_json::Value;
 
-#[tactic(auto, unfolding(crate::specs::Reading::decide_at))]
 pub fn decide_of(request: &Value) -> Result<Command, Refusal>
-    ensures { Gives result (decide_at (view request.now)) }
+    ensures { Gives result (read_request (request_of CommandName.Decide) (view request.now)) }
 {
-    let code = code_of(request)?;
-    let a = small_number(request, FieldName::A)?;
-    let b = small_number(request, FieldName::B)?;
-    Ok(Command::Decide(code.decision(FileNo(a), FileNo(b))))
+    let code = code_of(request, FieldName::Code)?;
+    let a = file(request, FieldName::A)?;
+    let b = file(request, FieldName::B)?;
+    Ok(Command::Decide(code.decision(a, b)))
 }
 
-#[tactic(auto, unfolding(crate::specs::Reading::code_at))]
-fn code_of(request: &Value) -> Result<AskedCode, Refusal>
-    ensures { Gives result (code_at (view request.now)) }
+#[tactic(auto, unfolding(crate::specs::Forms::said_at))]
+fn code_of(request: &Value, name: FieldName) -> Result<AskedCode, Refusal>
+    ensures { Gives result (said_at name a_code (view request.now)) }
 {
-    number(request, FieldName::Code)
+    number(request, name)
         .and_then(AskedCode::of_number)
-        .ok_or(Refusal::NotARequest(FieldName::Code))
+        .ok_or(Refusal::NotARequest(name))
 }
 
-#[tactic(auto, unfolding(crate::specs::Reading::undo_at))]
 pub fn undo_of(request: &Value) -> Result<Command, Refusal>
-    ensures { Gives result (undo_at (view request.now)) }
+    ensures { Gives result (read_request (request_of CommandName.Undo) (view request.now)) }
 {
     let decision = small_number(request, FieldName::Decision)?;
     Ok(Command::Undo(DecisionNo(decision)))

@@ -4,17 +4,20 @@ ghost use Rattle.std.specs.Prelude.{◌≡◌, ◌^◌, map, option_map};
 ghost use Rattle.std.specs.Option.{is_none};
 ghost use Rattle.serde_json.specs.Find.{as_array};
 ghost use Rattle.serde_json.specs.View.{view, items_view};
-ghost use Rattle.command_text.specs.Reading.{Gives, GivesAs, field_of, text_of, number_of, list_of, texts_of, files_of, file_in, file_at, formed, whole_number_at, hash_texts_at, files_at};
-ghost use Rattle.media_base.specs.declared.refusal.FieldName.TheVariants as fields;
+ghost use Rattle.command_text.specs.Forms.{Gives, GivesAs, field_of, number_of, list_of, texts_of, files_of, file_in, formed, said_at, a_text, a_number, a_file, texts_or_none, some_files, a_file_beside};
 
 use media_base::{FieldName, FileList, FileNo, Listed, Refusal};
 use serde_json::Value;
 use std::alloc::Global;
 
-pub fn text(request: &Value, name: FieldName) -> Option<&str>
-    ensures { option_map (λ text. text.now) result ≡ text_of name (view request.now) }
+#[tactic(auto, unfolding(crate::specs::Forms::said_at))]
+pub fn text(request: &Value, name: FieldName) -> Result<&str, Refusal>
+    ensures { GivesAs (λ text. text.now) result (said_at name a_text (view request.now)) }
 {
-    request.get(name.text()).and_then(Value::as_str)
+    request
+        .get(name.text())
+        .and_then(Value::as_str)
+        .ok_or(Refusal::NotARequest(name))
 }
 
 pub fn number(request: &Value, name: FieldName) -> Option<u64>
@@ -23,15 +26,15 @@ pub fn number(request: &Value, name: FieldName) -> Option<u64>
     request.get(name.text()).and_then(Value::as_u64)
 }
 
-pub fn lacks(request: &Value, name: FieldName) -> bool
+fn lacks(request: &Value, name: FieldName) -> bool
     ensures { result ≡ is_none (field_of name (view request.now)) }
 {
     request.get(name.text()).is_none()
 }
 
-#[tactic(auto, unfolding(crate::specs::Reading::whole_number_at))]
+#[tactic(auto, unfolding(crate::specs::Forms::said_at))]
 pub fn large_number(request: &Value, name: FieldName) -> Result<u64, Refusal>
-    ensures { Gives result (whole_number_at name (2 ^ 64) (view request.now)) }
+    ensures { Gives result (said_at name (a_number (2 ^ 64)) (view request.now)) }
 {
     match number(request, name) {
         Some(value) => Ok(value),
@@ -39,9 +42,9 @@ pub fn large_number(request: &Value, name: FieldName) -> Result<u64, Refusal>
     }
 }
 
-#[tactic(auto, unfolding(crate::specs::Reading::whole_number_at))]
+#[tactic(auto, unfolding(crate::specs::Forms::said_at))]
 pub fn small_number(request: &Value, name: FieldName) -> Result<u32, Refusal>
-    ensures { Gives result (whole_number_at name (2 ^ 32) (view request.now)) }
+    ensures { Gives result (said_at name (a_number (2 ^ 32)) (view request.now)) }
 {
     match number(request, name) {
         Some(value) if value <= u64::from(u32::MAX) => Ok(value as u32),
@@ -49,63 +52,84 @@ pub fn small_number(request: &Value, name: FieldName) -> Result<u32, Refusal>
     }
 }
 
-/// The number of `file`.
-#[tactic(auto, unfolding(crate::specs::Reading::file_at))]
-pub fn file(request: &Value) -> Result<FileNo, Refusal>
-    ensures { Gives result (file_at (view request.now)) }
+/// A file's number.
+#[tactic(auto, unfolding(crate::specs::Forms::said_at))]
+pub fn file(request: &Value, name: FieldName) -> Result<FileNo, Refusal>
+    ensures { Gives result (said_at name a_file (view request.now)) }
 {
     request
-        .get(FieldName::File.text())
+        .get(name.text())
         .and_then(file_in)
-        .ok_or(Refusal::NotARequest(FieldName::File))
+        .ok_or(Refusal::NotARequest(name))
 }
 
-/// The texts of `hashes`, none where the field is missing.
-#[tactic(auto, unfolding(crate::specs::Reading::hash_texts_at))]
-pub fn hash_texts(alloc: Global, request: &Value) -> Result<Listed<&str>, Refusal>
-    ensures { GivesAs (map (λ text. text.now)) result (hash_texts_at (view request.now)) }
+/// A file's number, or none where this field and the other are both missing.
+#[tactic(auto, unfolding(crate::specs::Forms::said_at))]
+pub fn file_beside(
+    request: &Value,
+    name: FieldName,
+    other: FieldName,
+) -> Result<Option<FileNo>, Refusal>
+    ensures { Gives result (said_at name (a_file_beside other) (view request.now)) }
 {
-    let Some(field) = request.get(FieldName::Hashes.text()) else {
+    if lacks(request, name) && lacks(request, other) {
+        return Ok(None);
+    }
+    match request.get(name.text()).and_then(file_in) {
+        Some(file) => Ok(Some(file)),
+        None => Err(Refusal::NotARequest(name)),
+    }
+}
+
+/// The texts of a list, none where the field is missing.
+#[tactic(auto, unfolding(crate::specs::Forms::said_at))]
+pub fn texts_or_none(
+    alloc: Global,
+    request: &Value,
+    name: FieldName,
+) -> Result<Listed<&str>, Refusal>
+    ensures { GivesAs (map (λ text. text.now)) result (said_at name texts_or_none (view request.now)) }
+{
+    let Some(field) = request.get(name.text()) else {
         return Ok(Listed::new(alloc));
     };
     let Some(items) = field.as_array() else {
-        return Err(Refusal::NotARequest(FieldName::Hashes));
+        return Err(Refusal::NotARequest(name));
     };
-    texts_in(alloc, items.as_slice())
+    texts_in(alloc, items.as_slice(), name)
 }
 
-fn texts_in(alloc: Global, items: &[Value]) -> Result<Listed<&str>, Refusal>
-    ensures { GivesAs (map (λ text. text.now)) result
-        (formed fields.Hashes (texts_of (items_view items.now))) }
+fn texts_in(alloc: Global, items: &[Value], name: FieldName) -> Result<Listed<&str>, Refusal>
+    ensures { GivesAs (map (λ text. text.now)) result (formed name (texts_of (items_view items.now))) }
 {
     let mut texts = Listed::new(alloc);
     for item in items {
         let Some(text) = item.as_str() else {
-            return Err(Refusal::NotARequest(FieldName::Hashes));
+            return Err(Refusal::NotARequest(name));
         };
         texts.push(text)?;
     }
     Ok(texts)
 }
 
-/// The numbers of `files`.
-#[tactic(auto, unfolding(crate::specs::Reading::files_at))]
-pub fn files(alloc: Global, request: &Value) -> Result<FileList, Refusal>
-    ensures { Gives result (files_at (view request.now)) }
+/// The files of a list of their numbers.
+#[tactic(auto, unfolding(crate::specs::Forms::said_at))]
+pub fn files(alloc: Global, request: &Value, name: FieldName) -> Result<FileList, Refusal>
+    ensures { Gives result (said_at name some_files (view request.now)) }
 {
-    match list(request, FieldName::Files) {
-        Some(items) => files_in(alloc, items),
-        None => Err(Refusal::NotARequest(FieldName::Files)),
+    match list(request, name) {
+        Some(items) => files_in(alloc, items, name),
+        None => Err(Refusal::NotARequest(name)),
     }
 }
 
-fn files_in(alloc: Global, items: &[Value]) -> Result<FileList, Refusal>
-    ensures { Gives result (formed fields.Files (files_of (items_view items.now))) }
+fn files_in(alloc: Global, items: &[Value], name: FieldName) -> Result<FileList, Refusal>
+    ensures { Gives result (formed name (files_of (items_view items.now))) }
 {
     let mut files = FileList::new(alloc);
     for item in items {
         let Some(file) = file_in(item) else {
-            return Err(Refusal::NotARequest(FieldName::Files));
+            return Err(Refusal::NotARequest(name));
         };
         files.push(file)?;
     }

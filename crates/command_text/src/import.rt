@@ -2,9 +2,10 @@
 
 ghost use Rattle.std.specs.Prelude.{◌≡◌, map};
 ghost use Rattle.serde_json.specs.View.{view};
-ghost use Rattle.command_text.specs.Reading.{Gives, sha_of, word_of, words_of, few_hashes, import_at};
+ghost use Rattle.command_text.specs.Commands.{CommandName, request_of};
+ghost use Rattle.command_text.specs.Forms.{Gives, read_request, sha_of, word_of, words_of, few_hashes};
 
-use crate::fields::{hash_texts, large_number, small_number, text};
+use crate::fields::{large_number, small_number, text, texts_or_none};
 use hex::FromHex;
 use media_base::{
     Command, FieldName, FileHashes, Hash64, HashList, MAX_HASHES, NewFile, Refusal, Sha,
@@ -14,14 +15,12 @@ use std::alloc::Global;
 
 /// All fields have their forms before the digits are read, and all digits are read before the hashes
 /// are counted.
-#[tactic(auto, unfolding(crate::specs::Reading::import_at, crate::specs::Reading::text_at))]
+#[tactic(auto, unfolding(crate::specs::Forms::read_request))]
 pub fn import_of(alloc: Global, request: &Value) -> Result<Command, Refusal>
-    ensures { Gives result (import_at (view request.now)) }
+    ensures { Gives result (read_request (request_of CommandName.Import) (view request.now)) }
 {
-    let Some(digits) = text(request, FieldName::Sha256) else {
-        return Err(Refusal::NotARequest(FieldName::Sha256));
-    };
-    let texts = hash_texts(alloc, request)?;
+    let digits = text(request, FieldName::Sha256)?;
+    let texts = texts_or_none(alloc, request, FieldName::Hashes)?;
     let size = large_number(request, FieldName::Size)?;
     let width = small_number(request, FieldName::Width)?;
     let height = small_number(request, FieldName::Height)?;
@@ -37,7 +36,7 @@ pub fn import_of(alloc: Global, request: &Value) -> Result<Command, Refusal>
     }))
 }
 
-#[tactic(auto, unfolding(crate::specs::Reading::sha_of))]
+#[tactic(auto, unfolding(crate::specs::Forms::sha_of))]
 fn sha_of(digits: &str) -> Result<Sha, Refusal>
     ensures { result ≡ sha_of digits.now }
 {
@@ -47,7 +46,7 @@ fn sha_of(digits: &str) -> Result<Sha, Refusal>
     }
 }
 
-#[tactic(auto, unfolding(crate::specs::Reading::word_of))]
+#[tactic(auto, unfolding(crate::specs::Forms::word_of))]
 fn word_of(digits: &str) -> Result<Hash64, Refusal>
     ensures { result ≡ word_of digits.now }
 {
@@ -67,7 +66,7 @@ fn words_of(alloc: Global, texts: &[&str]) -> Result<HashList, Refusal>
     Ok(words)
 }
 
-#[tactic(auto, unfolding(crate::specs::Reading::few_hashes))]
+#[tactic(auto, unfolding(crate::specs::Forms::few_hashes))]
 fn few_hashes(words: HashList) -> Result<FileHashes, Refusal>
     ensures { result ≡ few_hashes words }
 {

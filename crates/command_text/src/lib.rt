@@ -5,7 +5,6 @@
 #![tactic(auto)]
 
 mod asked_code;
-mod command_name;
 mod decisions;
 mod fields;
 mod import;
@@ -14,7 +13,7 @@ mod pairs;
 mod request;
 mod searches;
 
-pub use laws::{long_line_laws, refusal_laws, spelling_laws};
+pub use laws::{long_line_laws, refusal_laws, spelling_laws, worked_readings};
 pub use request::{MAX_LINE, read_line};
 
 #[cfg(test)]

@@ -1,51 +1,44 @@
 //! Pages of potential pairs, and their count.
+#![tactic(auto, unfolding(crate::specs::Forms::read_request))]
 
 ghost use Rattle.std.specs.Prelude.{◌≡◌};
 ghost use Rattle.serde_json.specs.View.{view};
-ghost use Rattle.command_text.specs.Reading.{Gives, has_no_place, place_at, pairs_at, pair_count_at};
+ghost use Rattle.command_text.specs.Commands.{CommandName, request_of};
+ghost use Rattle.command_text.specs.Forms.{Gives, read_request, place_of};
 
-use crate::fields::{lacks, large_number, small_number};
+use crate::fields::{file_beside, large_number};
 use crate::searches::{batch_of, distance_of};
 use media_base::{Command, FieldName, FileNo, PairPage, Refusal};
 use serde_json::Value;
 
 /// The distance is tested before the number of pairs.
-#[tactic(auto, unfolding(crate::specs::Reading::pairs_at))]
 pub fn pairs_of(request: &Value) -> Result<Command, Refusal>
-    ensures { Gives result (pairs_at (view request.now)) }
+    ensures { Gives result (read_request (request_of CommandName.Pairs) (view request.now)) }
 {
-    let after = place_of(request)?;
+    let after_j = file_beside(request, FieldName::AfterJ, FieldName::AfterK)?;
+    let after_k = file_beside(request, FieldName::AfterK, FieldName::AfterJ)?;
     let number = large_number(request, FieldName::N)?;
     let farthest = large_number(request, FieldName::AtMost)?;
     let at_most = distance_of(farthest)?;
     let n = batch_of(number)?;
+    let after = place_of(after_j, after_k);
     Ok(Command::Pairs(PairPage { after, n, at_most }))
 }
 
-#[tactic(auto, unfolding(crate::specs::Reading::pair_count_at))]
 pub fn pair_count_of(request: &Value) -> Result<Command, Refusal>
-    ensures { Gives result (pair_count_at (view request.now)) }
+    ensures { Gives result (read_request (request_of CommandName.PairCount) (view request.now)) }
 {
     let farthest = large_number(request, FieldName::AtMost)?;
     let at_most = distance_of(farthest)?;
     Ok(Command::PairCount(at_most))
 }
 
-/// The pair that a page comes after, or none where neither of its fields is there.
-#[tactic(auto, unfolding(crate::specs::Reading::place_at))]
-fn place_of(request: &Value) -> Result<Option<(FileNo, FileNo)>, Refusal>
-    ensures { Gives result (place_at (view request.now)) }
+/// Both files of a place, or none.
+fn place_of(j: Option<FileNo>, k: Option<FileNo>) -> Option<(FileNo, FileNo)>
+    ensures { result ≡ place_of j k }
 {
-    if has_no_place(request) {
-        return Ok(None);
+    match (j, k) {
+        (Some(j), Some(k)) => Some((j, k)),
+        _ => None,
     }
-    let j = small_number(request, FieldName::AfterJ)?;
-    let k = small_number(request, FieldName::AfterK)?;
-    Ok(Some((FileNo(j), FileNo(k))))
-}
-
-fn has_no_place(request: &Value) -> bool
-    ensures { result ≡ has_no_place (view request.now) }
-{
-    lacks(request, FieldName::AfterJ) && lacks(request, FieldName::AfterK)
 }

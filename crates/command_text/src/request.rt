@@ -1,8 +1,9 @@
 ghost use Rattle.std.specs.Prelude.{◌≡◌};
 ghost use Rattle.serde_json.specs.View.{view};
-ghost use Rattle.command_text.specs.Reading.{Gives, name_at, value_command, text_command, line_command};
+ghost use Rattle.command_text.specs.Forms.{Gives};
+ghost use Rattle.command_text.specs.Commands.{all_names, search_names};
+ghost use Rattle.command_text.specs.Reading.{first_at, value_command, text_command, line_command};
 
-use crate::command_name::CommandName;
 use crate::decisions::{decide_of, undo_of};
 use crate::fields::{file, text};
 use crate::import::import_of;
@@ -54,28 +55,37 @@ fn read_text(alloc: Global, bytes: &[u8]) -> Result<Command, Refusal>
 fn command_of(alloc: Global, request: &Value) -> Result<Command, Refusal>
     ensures { Gives result (value_command (view request.now)) }
 {
-    match name_of(request)? {
-        CommandName::Import => import_of(alloc, request),
-        CommandName::Delete => Ok(Command::Delete(file(request)?)),
-        CommandName::Undelete => Ok(Command::Undelete(file(request)?)),
-        CommandName::Decide => decide_of(request),
-        CommandName::Undo => undo_of(request),
-        CommandName::Relations => Ok(Command::Relations(file(request)?)),
-        CommandName::Pairs => pairs_of(request),
-        CommandName::PairCount => pair_count_of(request),
-        CommandName::SearchDistance => search_distance_of(request),
-        CommandName::SearchJob => search_job_of(request),
-        CommandName::SearchFiles => search_files_of(alloc, request),
-        CommandName::Queues => Ok(Command::Queues),
-        CommandName::RebalanceJob => Ok(Command::RebalanceJob),
+    command_named(alloc, text(request, FieldName::Do)?, request)
+}
+
+#[tactic(auto, unfolding(crate::specs::Forms::read_request))]
+fn command_named(alloc: Global, name: &str, request: &Value) -> Result<Command, Refusal>
+    ensures { Gives result (first_at all_names name.now (view request.now)) }
+{
+    match name {
+        "import" => import_of(alloc, request),
+        "delete" => Ok(Command::Delete(file(request, FieldName::File)?)),
+        "undelete" => Ok(Command::Undelete(file(request, FieldName::File)?)),
+        "decide" => decide_of(request),
+        "undo" => undo_of(request),
+        "relations" => Ok(Command::Relations(file(request, FieldName::File)?)),
+        _ => search_command(alloc, name, request),
     }
 }
 
-#[tactic(auto, unfolding(crate::specs::Reading::name_at))]
-fn name_of(request: &Value) -> Result<CommandName, Refusal>
-    ensures { Gives result (name_at (view request.now)) }
+/// A command of searches or pairs.
+#[tactic(auto, unfolding(crate::specs::Forms::read_request, crate::specs::Commands::search_names))]
+fn search_command(alloc: Global, name: &str, request: &Value) -> Result<Command, Refusal>
+    ensures { Gives result (first_at search_names name.now (view request.now)) }
 {
-    text(request, FieldName::Do)
-        .and_then(CommandName::of_text)
-        .ok_or(Refusal::NotARequest(FieldName::Do))
+    match name {
+        "pairs" => pairs_of(request),
+        "pair_count" => pair_count_of(request),
+        "search_distance" => search_distance_of(request),
+        "search_job" => search_job_of(request),
+        "search_files" => search_files_of(alloc, request),
+        "queues" => Ok(Command::Queues),
+        "rebalance_job" => Ok(Command::RebalanceJob),
+        _ => Err(Refusal::NotARequest(FieldName::Do)),
+    }
 }

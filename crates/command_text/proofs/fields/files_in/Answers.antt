@@ -1,7 +1,6 @@
 use Rattle.std.proofs.Common.{List, ◌+◌, Option, inr, ap, subst, sym}
 use Rattle.media_types.specs.declared.numbers.FileNo.{FileNo}
-use Rattle.media_base.specs.declared.refusal.FieldName.TheVariants as fields
-use Rattle.command_text.specs.Reading.{formed, file_in}
+use Rattle.command_text.specs.Forms.{formed, file_in}
 use Rattle.command_text.proofs.EachLaws.{IsReadTo, read_none, read_more, read_stops, read_all}
 use Rattle.command_text.proofs.fields.files_in.Goals as goal
 
@@ -11,7 +10,7 @@ loop-item-init c =
 
 pub returns-in_default : goal.returns-in_default
 returns-in_default c =
-    inr (ap (λ (found : Option (List FileNo)). formed fields.Files found) (read_stops file_in c.args.items.now c.loop-item.item-index _ c.item-item.result c.loop-item-test.true c.item-item.is c.in_default.ensures c.loop-item.invariant))
+    inr (ap (λ (found : Option (List FileNo)). formed c.args.name found) (read_stops file_in c.args.items.now c.loop-item.item-index _ c.item-item.result c.loop-item-test.true c.item-item.is c.in_default.ensures c.loop-item.invariant))
 
 pub loop-item-preserved : goal.loop-item-preserved
 loop-item-preserved c =
@@ -20,4 +19,4 @@ loop-item-preserved c =
 
 pub returns : goal.returns
 returns c =
-    ap (λ (found : Option (List FileNo)). formed fields.Files found) (read_all file_in c.args.items.now c.loop-item.item-index _ c.loop-item-test.false c.loop-item.invariant)
+    ap (λ (found : Option (List FileNo)). formed c.args.name found) (read_all file_in c.args.items.now c.loop-item.item-index _ c.loop-item-test.false c.loop-item.invariant)

@@ -1,4 +1,4 @@
-use Rattle.command_text.specs.Reading.{file_in}
+use Rattle.command_text.specs.Forms.{file_in}
 use Rattle.command_text.proofs.EachLaws.{IsReadTo}
 use Rattle.command_text.proofs.fields.files_in.Given as goal
 

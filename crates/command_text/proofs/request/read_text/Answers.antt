@@ -3,7 +3,7 @@ use Rattle.std.proofs.lemmas.Bool.{false≢true}
 use Rattle.serde_json.specs.View.{view}
 use Rattle.media_base.specs.declared.command.Command.{Command}
 use Rattle.media_base.specs.declared.refusal.Refusal.{Refusal}
-use Rattle.command_text.specs.Reading.{Gives}
+use Rattle.command_text.specs.Forms.{Gives}
 use Rattle.command_text.proofs.Lines.{line_value-utf8, line_value-none, text_command-value}
 use Rattle.command_text.proofs.request.read_text.Goals as goal
 

@@ -1,0 +1,97 @@
+-- The commands: their names, their fields in order, and what they ask.
+use Rattle.std.specs.Prelude.{◌^◌, List, [], ◌∷◌, codes}
+use Rattle.media_base.specs.declared.command.Command.TheVariants as commands
+use Rattle.media_base.specs.declared.refusal.FieldName.TheVariants as fields
+use Rattle.command_text.specs.Forms.{Form, a_text, a_number, a_file, texts_or_none, some_files, a_code, a_file_beside, decision_of, place_of, Test, Made, is_sha, are_words, are_few, is_near, is_batch, is_file_batch, Asking, asks, tests, Request}
+
+-- a test, and then what is asked with what it makes
+infixl 10 ◌>>=◌
+abbrev pub ◌>>=◌ : (test : Test) → (Made test → Asking) → Asking
+test >>= next = tests test next
+
+pub data CommandName : Type 0 where
+  Import : CommandName
+  Delete : CommandName
+  Undelete : CommandName
+  Decide : CommandName
+  Undo : CommandName
+  Relations : CommandName
+  Pairs : CommandName
+  PairCount : CommandName
+  SearchDistance : CommandName
+  SearchJob : CommandName
+  SearchFiles : CommandName
+  Queues : CommandName
+  RebalanceJob : CommandName
+
+-- the commands, in the order in which their names are tried, some ten in a list
+unfoldable pub search_names : List CommandName
+search_names =
+    CommandName.Pairs ∷ CommandName.PairCount ∷ CommandName.SearchDistance ∷ CommandName.SearchJob ∷ CommandName.SearchFiles ∷ CommandName.Queues ∷ CommandName.RebalanceJob
+    ∷ []
+
+abbrev pub all_names : List CommandName
+all_names =
+    CommandName.Import ∷ CommandName.Delete ∷ CommandName.Undelete ∷ CommandName.Decide ∷ CommandName.Undo ∷ CommandName.Relations
+    ∷ search_names
+
+-- a number of 32 bits, or of 64
+abbrev pub small : Form
+small = a_number (2 ^ 32)
+
+abbrev pub large : Form
+large = a_number (2 ^ 64)
+
+-- each command: its name in `do`, its fields in their order, and what it asks with what they say, behind the tests in their order
+abbrev pub request_of : CommandName → Request
+request_of CommandName.Import = record {
+  text = codes "import";
+  fields = (fields.Sha256, a_text) ∷ (fields.Hashes, texts_or_none) ∷ (fields.Size, large) ∷ (fields.Width, small) ∷ (fields.Height, small) ∷ [];
+  asked = λ digits texts size width height. do
+    sha ← is_sha digits
+    words ← are_words texts
+    hashes ← are_few words
+    asks (commands.Import (record { sha = sha; hashes = hashes; size = size; width = width; height = height }));
+}
+request_of CommandName.Delete = record { text = codes "delete"; fields = (fields.File, a_file) ∷ []; asked = λ file. asks (commands.Delete file) }
+request_of CommandName.Undelete = record { text = codes "undelete"; fields = (fields.File, a_file) ∷ []; asked = λ file. asks (commands.Undelete file) }
+request_of CommandName.Decide = record {
+  text = codes "decide";
+  fields = (fields.Code, a_code) ∷ (fields.A, a_file) ∷ (fields.B, a_file) ∷ [];
+  asked = λ code a b. asks (commands.Decide (decision_of code a b));
+}
+request_of CommandName.Undo = record { text = codes "undo"; fields = (fields.Decision, small) ∷ []; asked = λ decision. asks (commands.Undo (record { 0 = decision })) }
+request_of CommandName.Relations = record { text = codes "relations"; fields = (fields.File, a_file) ∷ []; asked = λ file. asks (commands.Relations file) }
+request_of CommandName.Pairs = record {
+  text = codes "pairs";
+  fields = (fields.AfterJ, a_file_beside fields.AfterK) ∷ (fields.AfterK, a_file_beside fields.AfterJ) ∷ (fields.N, large) ∷ (fields.AtMost, large) ∷ [];
+  asked = λ after_j after_k number farthest. do
+    at_most ← is_near farthest
+    n ← is_batch number
+    asks (commands.Pairs (record { after = place_of after_j after_k; n = n; at_most = at_most }));
+}
+request_of CommandName.PairCount = record {
+  text = codes "pair_count";
+  fields = (fields.AtMost, large) ∷ [];
+  asked = λ farthest. is_near farthest >>= (λ at_most. asks (commands.PairCount at_most));
+}
+request_of CommandName.SearchDistance = record {
+  text = codes "search_distance";
+  fields = (fields.Distance, large) ∷ [];
+  asked = λ number. is_near number >>= (λ distance. asks (commands.SearchDistance distance));
+}
+request_of CommandName.SearchJob = record {
+  text = codes "search_job";
+  fields = (fields.N, large) ∷ [];
+  asked = λ number. is_batch number >>= (λ n. asks (commands.SearchJob n));
+}
+request_of CommandName.SearchFiles = record {
+  text = codes "search_files";
+  fields = (fields.Files, some_files) ∷ (fields.Distance, large) ∷ [];
+  asked = λ listed number. do
+    distance ← is_near number
+    files ← is_file_batch listed
+    asks (commands.SearchFiles (record { files = files; distance = distance }));
+}
+request_of CommandName.Queues = record { text = codes "queues"; fields = []; asked = asks commands.Queues }
+request_of CommandName.RebalanceJob = record { text = codes "rebalance_job"; fields = []; asked = asks commands.RebalanceJob }
