@@ -12,6 +12,8 @@ use Rattle.media_types.specs.declared.numbers.FileNo.{FileNo}
 use Rattle.media_types.specs.declared.pair_page.PairPage.{PairPage}
 use Rattle.media_base.specs.declared.command.Command.{Command}
 use Rattle.media_base.specs.declared.command.Command.TheVariants as commands
+use Rattle.media_base.specs.declared.command.Query.TheVariants as queries
+use Rattle.media_base.specs.declared.change.Change.TheVariants as changes
 use Rattle.media_base.specs.declared.refusal.FieldName.TheVariants as fields
 use Rattle.command_text.specs.declared.asked_code.AskedCode.{AskedCode}
 use Rattle.command_text.specs.declared.asked_code.AskedCode.TheVariants as asked_codes
@@ -45,14 +47,14 @@ spells_like line Plain command same = (
 -- ---- imports
 
 is_no_import : Command → Bool
-is_no_import (commands.Import file) = false
+is_no_import (commands.Do (changes.File file)) = false
 is_no_import command = true
 
-same_import : (a b : NewFile) → commands.Import a ≡ commands.Import b → a ≡ b
+same_import : (a b : NewFile) → commands.Do (changes.File a) ≡ commands.Do (changes.File b) → a ≡ b
 same_import a b e = cc e
 
 import_of : (value : Data) (file : NewFile) (name : CommandName) (said : AllSaid (request_of name).fields) → IsNamed value name → HasAll value (request_of name).fields said
-    → Passes (asking_of name said) (commands.Import file) → AsksImport value file
+    → Passes (asking_of name said) (commands.Do (changes.File file)) → AsksImport value file
 unfolding is_no_import
 import_of value file CommandName.Import said named has is =
     subst (AsksImport value) (same_import _ file is.2.2.2) (record {
@@ -64,9 +66,9 @@ import_of value file CommandName.Import said named has is =
       height = has.1.1.1.1.0;
     })
 import_of value file name said named has is =
-    absurd (false≢true (passes_always is_no_import (asking_of name said) (commands.Import file) (search rules) is))
+    absurd (false≢true (passes_always is_no_import (asking_of name said) (commands.Do (changes.File file)) (search rules) is))
 
-import_asks : (value : Data) (file : NewFile) → Asks value (commands.Import file) ↔ AsksImport value file
+import_asks : (value : Data) (file : NewFile) → Asks value (commands.Do (changes.File file)) ↔ AsksImport value file
 import_asks value file = (
   λ asks. import_of value file asks.name asks.said asks.named asks.has asks.is,
   λ plain. record {
@@ -78,16 +80,16 @@ import_asks value file = (
   },
 )
 
-pub import_reading : (line : List ℕ) (file : NewFile) → (line_command line ≡ Ok (commands.Import file)) ↔ SpellsImport line file
-import_reading line file = spells_like line (λ value. AsksImport value file) (commands.Import file) (λ value. import_asks value file)
+pub import_reading : (line : List ℕ) (file : NewFile) → (line_command line ≡ Ok (commands.Do (changes.File file))) ↔ SpellsImport line file
+import_reading line file = spells_like line (λ value. AsksImport value file) (commands.Do (changes.File file)) (λ value. import_asks value file)
 
 -- ---- decisions
 
 is_no_decision : Command → Bool
-is_no_decision (commands.Decide decision) = false
+is_no_decision (commands.Do (changes.Decision decision)) = false
 is_no_decision command = true
 
-same_decision : (a b : Decision) → commands.Decide a ≡ commands.Decide b → a ≡ b
+same_decision : (a b : Decision) → commands.Do (changes.Decision a) ≡ commands.Do (changes.Decision b) → a ≡ b
 same_decision a b e = cc e
 
 abbrev SaysThis : Data → Decision → Type 0
@@ -102,49 +104,49 @@ says_coded value (asked_codes.As codes_of.Better) a b names = inl names
 says_coded value asked_codes.Worse a b names = inr names
 
 decision_of_fields : (value : Data) (decision : Decision) (name : CommandName) (said : AllSaid (request_of name).fields) → IsNamed value name → HasAll value (request_of name).fields said
-    → Passes (asking_of name said) (commands.Decide decision) → AsksDecide value decision
+    → Passes (asking_of name said) (commands.Do (changes.Decision decision)) → AsksDecide value decision
 unfolding is_no_decision
 decision_of_fields value decision CommandName.Decide said named has is = record {
   named = named;
   says = subst (SaysThis value) (same_decision _ decision is) (says_coded value said.0 said.1.0 said.1.1.0 (record { code = has.0; a = has.1.0; b = has.1.1.0 }));
 }
 decision_of_fields value decision name said named has is =
-    absurd (false≢true (passes_always is_no_decision (asking_of name said) (commands.Decide decision) (search rules) is))
+    absurd (false≢true (passes_always is_no_decision (asking_of name said) (commands.Do (changes.Decision decision)) (search rules) is))
 
 -- the fields that say a decision
 asks_coded : (value : Data) (decision : Decision) (asked : AskedCode) (a b : FileNo) → IsNamed value CommandName.Decide → NamesFiles value (code_number asked) a b → decision_of asked a b ≡ decision
-    → Asks value (commands.Decide decision)
+    → Asks value (commands.Do (changes.Decision decision))
 asks_coded value decision asked a b named names same = record {
   name = CommandName.Decide;
   named = named;
   said = (asked, (a, (b, tt)));
   has = (names.code, (names.a, (names.b, tt)));
-  is = ap (λ (found : Decision). commands.Decide found) same;
+  is = ap (λ (found : Decision). commands.Do (changes.Decision found)) same;
 }
 
-asks_said : (value : Data) (code : Code) (a b : FileNo) → IsNamed value CommandName.Decide → Says value code a b → Asks value (commands.Decide (record { code = code; a = a; b = b }))
+asks_said : (value : Data) (code : Code) (a b : FileNo) → IsNamed value CommandName.Decide → Says value code a b → Asks value (commands.Do (changes.Decision (record { code = code; a = a; b = b })))
 asks_said value codes_of.NotRelated a b named names = asks_coded value _ (asked_codes.As codes_of.NotRelated) a b named names refl
 asks_said value codes_of.Same a b named names = asks_coded value _ (asked_codes.As codes_of.Same) a b named names refl
 asks_said value codes_of.Alternates a b named names = asks_coded value _ (asked_codes.As codes_of.Alternates) a b named names refl
 asks_said value codes_of.Better a b named (inl names) = asks_coded value _ (asked_codes.As codes_of.Better) a b named names refl
 asks_said value codes_of.Better a b named (inr names) = asks_coded value _ asked_codes.Worse b a named names refl
 
-decide_asks : (value : Data) (decision : Decision) → Asks value (commands.Decide decision) ↔ AsksDecide value decision
+decide_asks : (value : Data) (decision : Decision) → Asks value (commands.Do (changes.Decision decision)) ↔ AsksDecide value decision
 decide_asks value decision = (
   λ asks. decision_of_fields value decision asks.name asks.said asks.named asks.has asks.is,
   λ plain. asks_said value decision.code decision.a decision.b plain.named plain.says,
 )
 
-pub decide_reading : (line : List ℕ) (decision : Decision) → (line_command line ≡ Ok (commands.Decide decision)) ↔ SpellsDecide line decision
-decide_reading line decision = spells_like line (λ value. AsksDecide value decision) (commands.Decide decision) (λ value. decide_asks value decision)
+pub decide_reading : (line : List ℕ) (decision : Decision) → (line_command line ≡ Ok (commands.Do (changes.Decision decision))) ↔ SpellsDecide line decision
+decide_reading line decision = spells_like line (λ value. AsksDecide value decision) (commands.Do (changes.Decision decision)) (λ value. decide_asks value decision)
 
 -- ---- pages of pairs
 
 is_no_page : Command → Bool
-is_no_page (commands.Pairs page) = false
+is_no_page (commands.Ask (queries.Pairs page)) = false
 is_no_page command = true
 
-same_page : (a b : PairPage) → commands.Pairs a ≡ commands.Pairs b → a ≡ b
+same_page : (a b : PairPage) → commands.Ask (queries.Pairs a) ≡ commands.Ask (queries.Pairs b) → a ≡ b
 same_page a b e = cc e
 
 -- both fields say a file, or none does
@@ -155,7 +157,7 @@ place_said value None (Some k) has_j has_k = let none = has_j.1 in let some = ha
 place_said value (Some j) None has_j has_k = let none = has_k.1 in let some = has_j.is in cc
 
 page_of : (value : Data) (page : PairPage) (name : CommandName) (said : AllSaid (request_of name).fields) → IsNamed value name → HasAll value (request_of name).fields said
-    → Passes (asking_of name said) (commands.Pairs page) → AsksPairs value page
+    → Passes (asking_of name said) (commands.Ask (queries.Pairs page)) → AsksPairs value page
 unfolding is_no_page
 page_of value page CommandName.Pairs said named has is =
     subst (AsksPairs value) (same_page _ page is.2.2) (record {
@@ -167,28 +169,28 @@ page_of value page CommandName.Pairs said named has is =
       batch = subst IsBatch (sym is.2.1.0) is.2.1.1;
     })
 page_of value page name said named has is =
-    absurd (false≢true (passes_always is_no_page (asking_of name said) (commands.Pairs page) (search rules) is))
+    absurd (false≢true (passes_always is_no_page (asking_of name said) (commands.Ask (queries.Pairs page)) (search rules) is))
 
 -- the fields that say a page
 asks_page : (value : Data) (page : PairPage) (j k : Option FileNo) → HasFileBeside value fields.AfterJ fields.AfterK j → HasFileBeside value fields.AfterK fields.AfterJ k → place_of j k ≡ page.after
-    → AsksPairs value page → Asks value (commands.Pairs page)
+    → AsksPairs value page → Asks value (commands.Ask (queries.Pairs page))
 asks_page value page j k has_j has_k same plain = record {
   name = CommandName.Pairs;
   named = plain.named;
   said = (j, (k, (page.n, (page.at_most, tt))));
   has = (has_j, (has_k, (plain.n, (plain.at_most, tt))));
-  is = (page.at_most, (refl, plain.small), (page.n, (refl, plain.batch), ap (λ (after : Option (FileNo × FileNo)). commands.Pairs (record { after = after; n = page.n; at_most = page.at_most })) same));
+  is = (page.at_most, (refl, plain.small), (page.n, (refl, plain.batch), ap (λ (after : Option (FileNo × FileNo)). commands.Ask (queries.Pairs (record { after = after; n = page.n; at_most = page.at_most }))) same));
 }
 
-asks_after : (value : Data) (page : PairPage) (after : Option (FileNo × FileNo)) → after ≡ page.after → HasPlace value after → AsksPairs value page → Asks value (commands.Pairs page)
+asks_after : (value : Data) (page : PairPage) (after : Option (FileNo × FileNo)) → after ≡ page.after → HasPlace value after → AsksPairs value page → Asks value (commands.Ask (queries.Pairs page))
 asks_after value page None same none plain = asks_page value page None None (none.0, none.1) (none.1, none.0) same plain
 asks_after value page (Some place) same has plain = asks_page value page (Some place.0) (Some place.1) has.0 has.1 same plain
 
-pairs_asks : (value : Data) (page : PairPage) → Asks value (commands.Pairs page) ↔ AsksPairs value page
+pairs_asks : (value : Data) (page : PairPage) → Asks value (commands.Ask (queries.Pairs page)) ↔ AsksPairs value page
 pairs_asks value page = (
   λ asks. page_of value page asks.name asks.said asks.named asks.has asks.is,
   λ plain. asks_after value page page.after refl plain.after plain,
 )
 
-pub pairs_reading : (line : List ℕ) (page : PairPage) → (line_command line ≡ Ok (commands.Pairs page)) ↔ SpellsPairs line page
-pairs_reading line page = spells_like line (λ value. AsksPairs value page) (commands.Pairs page) (λ value. pairs_asks value page)
+pub pairs_reading : (line : List ℕ) (page : PairPage) → (line_command line ≡ Ok (commands.Ask (queries.Pairs page))) ↔ SpellsPairs line page
+pairs_reading line page = spells_like line (λ value. AsksPairs value page) (commands.Ask (queries.Pairs page)) (λ value. pairs_asks value page)

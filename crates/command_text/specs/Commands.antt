@@ -1,6 +1,10 @@
 -- The commands: their names, their fields in order, and what they ask.
-use Rattle.std.specs.Prelude.{◌^◌, List, [], ◌∷◌, codes}
+use Rattle.std.specs.Prelude.{◌^◌, true, false, List, [], ◌∷◌, codes}
 use Rattle.media_base.specs.declared.command.Command.TheVariants as commands
+use Rattle.media_base.specs.declared.command.Upkeep.TheVariants as upkeeps
+use Rattle.media_base.specs.declared.command.Job.TheVariants as jobs
+use Rattle.media_base.specs.declared.command.Query.TheVariants as queries
+use Rattle.media_base.specs.declared.change.Change.TheVariants as changes
 use Rattle.media_base.specs.declared.refusal.FieldName.TheVariants as fields
 use Rattle.command_text.specs.Forms.{Form, a_text, a_number, a_file, texts_or_none, some_files, a_code, a_file_beside, decision_of, place_of, Test, Made, is_sha, are_words, are_few, is_near, is_batch, is_file_batch, Asking, asks, tests, Request}
 
@@ -51,39 +55,39 @@ request_of CommandName.Import = record {
     sha ← is_sha digits
     words ← are_words texts
     hashes ← are_few words
-    asks (commands.Import (record { sha = sha; hashes = hashes; size = size; width = width; height = height }));
+    asks (commands.Do (changes.File (record { sha = sha; hashes = hashes; size = size; width = width; height = height })));
 }
-request_of CommandName.Delete = record { text = codes "delete"; fields = (fields.File, a_file) ∷ []; asked = λ file. asks (commands.Delete file) }
-request_of CommandName.Undelete = record { text = codes "undelete"; fields = (fields.File, a_file) ∷ []; asked = λ file. asks (commands.Undelete file) }
+request_of CommandName.Delete = record { text = codes "delete"; fields = (fields.File, a_file) ∷ []; asked = λ file. asks (commands.Do (changes.Live file false)) }
+request_of CommandName.Undelete = record { text = codes "undelete"; fields = (fields.File, a_file) ∷ []; asked = λ file. asks (commands.Do (changes.Live file true)) }
 request_of CommandName.Decide = record {
   text = codes "decide";
   fields = (fields.Code, a_code) ∷ (fields.A, a_file) ∷ (fields.B, a_file) ∷ [];
-  asked = λ code a b. asks (commands.Decide (decision_of code a b));
+  asked = λ code a b. asks (commands.Do (changes.Decision (decision_of code a b)));
 }
-request_of CommandName.Undo = record { text = codes "undo"; fields = (fields.Decision, small) ∷ []; asked = λ decision. asks (commands.Undo (record { 0 = decision })) }
-request_of CommandName.Relations = record { text = codes "relations"; fields = (fields.File, a_file) ∷ []; asked = λ file. asks (commands.Relations file) }
+request_of CommandName.Undo = record { text = codes "undo"; fields = (fields.Decision, small) ∷ []; asked = λ decision. asks (commands.Do (changes.Undo (record { 0 = decision }))) }
+request_of CommandName.Relations = record { text = codes "relations"; fields = (fields.File, a_file) ∷ []; asked = λ file. asks (commands.Ask (queries.Relations file)) }
 request_of CommandName.Pairs = record {
   text = codes "pairs";
   fields = (fields.AfterJ, a_file_beside fields.AfterK) ∷ (fields.AfterK, a_file_beside fields.AfterJ) ∷ (fields.N, large) ∷ (fields.AtMost, large) ∷ [];
   asked = λ after_j after_k number farthest. do
     at_most ← is_near farthest
     n ← is_batch number
-    asks (commands.Pairs (record { after = place_of after_j after_k; n = n; at_most = at_most }));
+    asks (commands.Ask (queries.Pairs (record { after = place_of after_j after_k; n = n; at_most = at_most })));
 }
 request_of CommandName.PairCount = record {
   text = codes "pair_count";
   fields = (fields.AtMost, large) ∷ [];
-  asked = λ farthest. is_near farthest >>= (λ at_most. asks (commands.PairCount at_most));
+  asked = λ farthest. is_near farthest >>= (λ at_most. asks (commands.Ask (queries.PairCount at_most)));
 }
 request_of CommandName.SearchDistance = record {
   text = codes "search_distance";
   fields = (fields.Distance, large) ∷ [];
-  asked = λ number. is_near number >>= (λ distance. asks (commands.SearchDistance distance));
+  asked = λ number. is_near number >>= (λ distance. asks (commands.Do (changes.Distance distance)));
 }
 request_of CommandName.SearchJob = record {
   text = codes "search_job";
   fields = (fields.N, large) ∷ [];
-  asked = λ number. is_batch number >>= (λ n. asks (commands.SearchJob n));
+  asked = λ number. is_batch number >>= (λ n. asks (commands.Run (jobs.Search n)));
 }
 request_of CommandName.SearchFiles = record {
   text = codes "search_files";
@@ -91,7 +95,7 @@ request_of CommandName.SearchFiles = record {
   asked = λ listed number. do
     distance ← is_near number
     files ← is_file_batch listed
-    asks (commands.SearchFiles (record { files = files; distance = distance }));
+    asks (commands.Do (changes.Searched (record { files = files; distance = distance })));
 }
-request_of CommandName.Queues = record { text = codes "queues"; fields = []; asked = asks commands.Queues }
-request_of CommandName.RebalanceJob = record { text = codes "rebalance_job"; fields = []; asked = asks commands.RebalanceJob }
+request_of CommandName.Queues = record { text = codes "queues"; fields = []; asked = asks (commands.Ask queries.Queues) }
+request_of CommandName.RebalanceJob = record { text = codes "rebalance_job"; fields = []; asked = asks (commands.Tend upkeeps.Rebalance) }

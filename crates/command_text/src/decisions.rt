@@ -7,7 +7,7 @@ ghost use Rattle.command_text.specs.Forms.{Gives, read_request, said_at, a_code}
 
 use crate::asked_code::AskedCode;
 use crate::fields::{file, number, small_number};
-use media_base::{Command, DecisionNo, FieldName, Refusal};
+use media_base::{Change, Command, DecisionNo, FieldName, Refusal};
 use serde_json::Value;
 
 pub fn decide_of(request: &Value) -> Result<Command, Refusal>
@@ -16,7 +16,7 @@ pub fn decide_of(request: &Value) -> Result<Command, Refusal>
     let code = code_of(request, FieldName::Code)?;
     let a = file(request, FieldName::A)?;
     let b = file(request, FieldName::B)?;
-    Ok(Command::Decide(code.decision(a, b)))
+    Ok(Command::Do(Change::Decision(code.decision(a, b))))
 }
 
 #[tactic(auto, unfolding(crate::specs::Forms::said_at))]
@@ -32,5 +32,5 @@ pub fn undo_of(request: &Value) -> Result<Command, Refusal>
     ensures { Gives result (read_request (request_of CommandName.Undo) (view request.now)) }
 {
     let decision = small_number(request, FieldName::Decision)?;
-    Ok(Command::Undo(DecisionNo(decision)))
+    Ok(Command::Do(Change::Undo(DecisionNo(decision))))
 }

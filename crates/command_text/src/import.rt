@@ -8,7 +8,7 @@ ghost use Rattle.command_text.specs.Forms.{Gives, read_request, sha_of, word_of,
 use crate::fields::{large_number, small_number, text, texts_or_none};
 use hex::FromHex;
 use media_base::{
-    Command, FieldName, FileHashes, Hash64, HashList, MAX_HASHES, NewFile, Refusal, Sha,
+    Change, Command, FieldName, FileHashes, Hash64, HashList, MAX_HASHES, NewFile, Refusal, Sha,
 };
 use serde_json::Value;
 use std::alloc::Global;
@@ -27,13 +27,13 @@ pub fn import_of(alloc: Global, request: &Value) -> Result<Command, Refusal>
     let sha = sha_of(digits)?;
     let words = words_of(alloc, texts.as_slice())?;
     let hashes = few_hashes(words)?;
-    Ok(Command::Import(NewFile {
+    Ok(Command::Do(Change::File(NewFile {
         sha,
         hashes,
         size,
         width,
         height,
-    }))
+    })))
 }
 
 #[tactic(auto, unfolding(crate::specs::Forms::sha_of))]

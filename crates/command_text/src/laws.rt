@@ -6,6 +6,8 @@ ghost use Rattle.media_types.specs.declared.new_file.NewFile.{NewFile};
 ghost use Rattle.media_types.specs.declared.pair_page.PairPage.{PairPage};
 ghost use Rattle.media_base.specs.declared.command.Command.{Command};
 ghost use Rattle.media_base.specs.declared.command.Command.TheVariants as commands;
+ghost use Rattle.media_base.specs.declared.command.Query.TheVariants as queries;
+ghost use Rattle.media_base.specs.declared.change.Change.TheVariants as changes;
 ghost use Rattle.media_base.specs.declared.refusal.FieldName.{FieldName};
 ghost use Rattle.media_base.specs.declared.refusal.Refusal.{Refusal};
 ghost use Rattle.media_base.specs.declared.refusal.Refusal.TheVariants as refusals;
@@ -45,9 +47,9 @@ pub fn long_line_laws()
 /// What the rows of three commands say, in full: a row is said once, so these stand against a slip in it.
 pub fn worked_readings()
     ensures import { (line : List ℕ) (file : NewFile)
-        → (line_command line ≡ Ok (commands.Import file)) ↔ SpellsImport line file }
+        → (line_command line ≡ Ok (commands.Do (changes.File file))) ↔ SpellsImport line file }
     ensures decide { (line : List ℕ) (decision : Decision)
-        → (line_command line ≡ Ok (commands.Decide decision)) ↔ SpellsDecide line decision }
+        → (line_command line ≡ Ok (commands.Do (changes.Decision decision))) ↔ SpellsDecide line decision }
     ensures pairs { (line : List ℕ) (page : PairPage)
-        → (line_command line ≡ Ok (commands.Pairs page)) ↔ SpellsPairs line page }
+        → (line_command line ≡ Ok (commands.Ask (queries.Pairs page))) ↔ SpellsPairs line page }
 {}

@@ -8,7 +8,7 @@ ghost use Rattle.command_text.specs.Forms.{Gives, read_request, place_of};
 
 use crate::fields::{file_beside, large_number};
 use crate::searches::{batch_of, distance_of};
-use media_base::{Command, FieldName, FileNo, PairPage, Refusal};
+use media_base::{Command, FieldName, FileNo, PairPage, Query, Refusal};
 use serde_json::Value;
 
 /// The distance is tested before the number of pairs.
@@ -22,7 +22,7 @@ pub fn pairs_of(request: &Value) -> Result<Command, Refusal>
     let at_most = distance_of(farthest)?;
     let n = batch_of(number)?;
     let after = place_of(after_j, after_k);
-    Ok(Command::Pairs(PairPage { after, n, at_most }))
+    Ok(Command::Ask(Query::Pairs(PairPage { after, n, at_most })))
 }
 
 pub fn pair_count_of(request: &Value) -> Result<Command, Refusal>
@@ -30,7 +30,7 @@ pub fn pair_count_of(request: &Value) -> Result<Command, Refusal>
 {
     let farthest = large_number(request, FieldName::AtMost)?;
     let at_most = distance_of(farthest)?;
-    Ok(Command::PairCount(at_most))
+    Ok(Command::Ask(Query::PairCount(at_most)))
 }
 
 /// Both files of a place, or none.

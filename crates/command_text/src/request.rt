@@ -9,7 +9,7 @@ use crate::fields::{file, text};
 use crate::import::import_of;
 use crate::pairs::{pair_count_of, pairs_of};
 use crate::searches::{search_distance_of, search_files_of, search_job_of};
-use media_base::{Command, FieldName, Refusal};
+use media_base::{Change, Command, FieldName, Query, Refusal, Upkeep};
 use serde_json::Value;
 use std::alloc::Global;
 
@@ -64,11 +64,17 @@ fn command_named(alloc: Global, name: &str, request: &Value) -> Result<Command, 
 {
     match name {
         "import" => import_of(alloc, request),
-        "delete" => Ok(Command::Delete(file(request, FieldName::File)?)),
-        "undelete" => Ok(Command::Undelete(file(request, FieldName::File)?)),
+        "delete" => Ok(Command::Do(Change::Live {
+            file: file(request, FieldName::File)?,
+            live: false,
+        })),
+        "undelete" => Ok(Command::Do(Change::Live {
+            file: file(request, FieldName::File)?,
+            live: true,
+        })),
         "decide" => decide_of(request),
         "undo" => undo_of(request),
-        "relations" => Ok(Command::Relations(file(request, FieldName::File)?)),
+        "relations" => Ok(Command::Ask(Query::Relations(file(request, FieldName::File)?))),
         _ => search_command(alloc, name, request),
     }
 }
@@ -84,8 +90,8 @@ fn search_command(alloc: Global, name: &str, request: &Value) -> Result<Command,
         "search_distance" => search_distance_of(request),
         "search_job" => search_job_of(request),
         "search_files" => search_files_of(alloc, request),
-        "queues" => Ok(Command::Queues),
-        "rebalance_job" => Ok(Command::RebalanceJob),
+        "queues" => Ok(Command::Ask(Query::Queues)),
+        "rebalance_job" => Ok(Command::Tend(Upkeep::Rebalance)),
         _ => Err(Refusal::NotARequest(FieldName::Do)),
     }
 }

@@ -8,7 +8,8 @@ ghost use Rattle.command_text.specs.Forms.{Gives, read_request, distance_of, bat
 
 use crate::fields::{files, large_number};
 use media_base::{
-    BatchSize, Command, FieldName, FileBatch, FileList, Refusal, SearchDistance, Searching,
+    BatchSize, Change, Command, FieldName, FileBatch, FileList, Job, Refusal, SearchDistance,
+    Searching,
 };
 use serde_json::Value;
 use std::alloc::Global;
@@ -18,7 +19,7 @@ pub fn search_distance_of(request: &Value) -> Result<Command, Refusal>
 {
     let number = large_number(request, FieldName::Distance)?;
     let distance = distance_of(number)?;
-    Ok(Command::SearchDistance(distance))
+    Ok(Command::Do(Change::Distance(distance)))
 }
 
 pub fn search_job_of(request: &Value) -> Result<Command, Refusal>
@@ -26,7 +27,7 @@ pub fn search_job_of(request: &Value) -> Result<Command, Refusal>
 {
     let number = large_number(request, FieldName::N)?;
     let n = batch_of(number)?;
-    Ok(Command::SearchJob(n))
+    Ok(Command::Run(Job::Search(n)))
 }
 
 /// The distance is tested before the files are counted.
@@ -37,7 +38,7 @@ pub fn search_files_of(alloc: Global, request: &Value) -> Result<Command, Refusa
     let number = large_number(request, FieldName::Distance)?;
     let distance = distance_of(number)?;
     let files = files_batch(listed)?;
-    Ok(Command::SearchFiles(Searching { files, distance }))
+    Ok(Command::Do(Change::Searched(Searching { files, distance })))
 }
 
 #[tactic(auto, unfolding(crate::specs::Forms::distance_of))]

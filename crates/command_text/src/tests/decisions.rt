@@ -1,5 +1,5 @@
 use super::{DECIDE, assert_all_faulty, assert_refused, read_pieces};
-use media_base::{Code, Command, Decision, DecisionNo, FieldName, FileNo, Refusal};
+use media_base::{Change, Code, Command, Decision, DecisionNo, FieldName, FileNo, Refusal};
 use std::test::Fail;
 
 #[test]
@@ -54,7 +54,10 @@ fn decisions_are_read(rt: HostRuntime) -> Result<(), Fail> {
     let front = r#" {"do":"decide","code":4,"a":1,"b":2 , "hashes":7, "code":"#;
     for (number, code, a, b) in cases {
         match read_pieces(rt.alloc(), front, number, "} ")? {
-            Command::Decide(decision) => assert_eq!(rt; decision, Decision { code, a, b }),
+            Command::Do(Change::Decision(decision)) => assert_eq!(rt;
+                decision,
+                Decision { code, a, b }
+            ),
             _ => panic!(rt; "no decision: {number}"),
         }
     }
@@ -65,7 +68,7 @@ fn decisions_are_read(rt: HostRuntime) -> Result<(), Fail> {
 fn undos_are_read(rt: HostRuntime) -> Result<(), Fail> {
     for (number, want) in &[("0", 0), ("7", 7), ("4294967295", u32::MAX)] {
         match read_pieces(rt.alloc(), "{\"decision\":", number, ",\"do\":\"undo\"}")? {
-            Command::Undo(decision) => assert_eq!(rt; decision, DecisionNo(*want)),
+            Command::Do(Change::Undo(decision)) => assert_eq!(rt; decision, DecisionNo(*want)),
             _ => panic!(rt; "no undo: {number}"),
         }
     }

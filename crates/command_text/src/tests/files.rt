@@ -1,5 +1,5 @@
 use super::{assert_all_faulty, assert_refused, read_pieces};
-use media_base::{Command, FieldName, FileNo, Refusal};
+use media_base::{Change, Command, FieldName, FileNo, Query, Refusal};
 use std::test::Fail;
 
 #[test]
@@ -45,7 +45,10 @@ const NUMBERS: [(&str, FileNo); 4] = [
 fn deletions_are_read(rt: HostRuntime) -> Result<(), Fail> {
     for (number, want) in &NUMBERS {
         match read_pieces(rt.alloc(), "{\"do\":\"delete\",\"file\":", number, "}")? {
-            Command::Delete(file) => assert_eq!(rt; file, *want),
+            Command::Do(Change::Live { file, live }) => assert_eq!(rt;
+                (file, live),
+                (*want, false)
+            ),
             _ => panic!(rt; "no deletion: {number}"),
         }
     }
@@ -61,7 +64,7 @@ fn undeletions_are_read(rt: HostRuntime) -> Result<(), Fail> {
             number,
             ",\"do\":\"undelete\",\"n\":0}",
         )? {
-            Command::Undelete(file) => assert_eq!(rt; file, *want),
+            Command::Do(Change::Live { file, live }) => assert_eq!(rt; (file, live), (*want, true)),
             _ => panic!(rt; "no undeletion: {number}"),
         }
     }
@@ -72,7 +75,7 @@ fn undeletions_are_read(rt: HostRuntime) -> Result<(), Fail> {
 fn questions_for_relations_are_read(rt: HostRuntime) -> Result<(), Fail> {
     for (number, want) in &NUMBERS {
         match read_pieces(rt.alloc(), "{\"file\":", number, ",\"do\":\"relations\"}")? {
-            Command::Relations(file) => assert_eq!(rt; file, *want),
+            Command::Ask(Query::Relations(file)) => assert_eq!(rt; file, *want),
             _ => panic!(rt; "no question: {number}"),
         }
     }

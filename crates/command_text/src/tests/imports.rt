@@ -1,6 +1,6 @@
 use super::{assert_all_faulty, assert_refused};
 use crate::read_line;
-use media_base::{Command, FieldName, Hash64, NewFile, Refusal};
+use media_base::{Change, Command, FieldName, Hash64, NewFile, Refusal};
 use std::alloc::Global;
 use std::process::Abort;
 use std::test::Fail;
@@ -71,7 +71,7 @@ fn other_than_sixty_four_digits_are_a_bad_hash(rt: HostRuntime) -> Result<(), Fa
 fn imported(rt: &impl Abort, alloc: Global, fields: &str) -> Result<NewFile, Fail> {
     let line = format!(in alloc; "{IMPORT},{fields}}}")?;
     match read_line(alloc, line.as_bytes())? {
-        Command::Import(file) => Ok(file),
+        Command::Do(Change::File(file)) => Ok(file),
         _ => panic!(rt; "no import: {line}"),
     }
 }

@@ -1,6 +1,6 @@
 use super::{assert_all_faulty, assert_all_refused, read_pieces};
 use crate::read_line;
-use media_base::{Command, FieldName, FileNo, Refusal};
+use media_base::{Command, FieldName, FileNo, Query, Refusal};
 use std::test::Fail;
 
 #[test]
@@ -99,7 +99,7 @@ fn pages_are_read(rt: HostRuntime) -> Result<(), Fail> {
     for (fields, after, n, at_most) in cases {
         let line = format!(in rt.alloc(); "{{\"do\":\"pairs\",{fields}}}")?;
         match read_line(rt.alloc(), line.as_bytes())? {
-            Command::Pairs(page) => {
+            Command::Ask(Query::Pairs(page)) => {
                 assert_eq!(rt; page.after, after);
                 assert_eq!(rt; page.n.number(), n);
                 assert_eq!(rt; page.at_most.bits(), at_most);
@@ -130,7 +130,7 @@ fn counts_are_read(rt: HostRuntime) -> Result<(), Fail> {
     let front = "{\"do\":\"pair_count\",\"at_most\":";
     for (number, bits) in &[("0", 0), ("8", 8), ("16", 16)] {
         match read_pieces(rt.alloc(), front, number, ",\"after_j\":null,\"n\":0}")? {
-            Command::PairCount(distance) => assert_eq!(rt; distance.bits(), *bits),
+            Command::Ask(Query::PairCount(distance)) => assert_eq!(rt; distance.bits(), *bits),
             _ => panic!(rt; "no count: {number}"),
         }
     }

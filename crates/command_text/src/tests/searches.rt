@@ -1,5 +1,5 @@
 use super::{assert_all_refused, assert_refused, read_pieces};
-use media_base::{Command, FieldName, FileNo, Refusal, Searching};
+use media_base::{Change, Command, FieldName, FileNo, Job, Query, Refusal, Searching, Upkeep};
 use std::alloc::{AllocError, Global};
 use std::process::Abort;
 use std::test::Fail;
@@ -78,7 +78,7 @@ fn distances_are_read(rt: HostRuntime) -> Result<(), Fail> {
     let end = ",\"do\":\"search_distance\"}";
     for (number, bits) in &[("0", 0), ("8", 8), ("16", 16)] {
         match read_pieces(rt.alloc(), "{\"distance\":", number, end)? {
-            Command::SearchDistance(distance) => assert_eq!(rt; distance.bits(), *bits),
+            Command::Do(Change::Distance(distance)) => assert_eq!(rt; distance.bits(), *bits),
             _ => panic!(rt; "no distance: {number}"),
         }
     }
@@ -90,7 +90,7 @@ fn search_jobs_are_read(rt: HostRuntime) -> Result<(), Fail> {
     let end = ",\"do\":\"search_job\",\"files\":7}";
     for (number, want) in &[("1", 1), ("2", 2), ("1024", 1_024)] {
         match read_pieces(rt.alloc(), "{\"n\":", number, end)? {
-            Command::SearchJob(n) => assert_eq!(rt; n.number(), *want),
+            Command::Run(Job::Search(n)) => assert_eq!(rt; n.number(), *want),
             _ => panic!(rt; "no job: {number}"),
         }
     }
@@ -111,7 +111,7 @@ fn search_up_to(alloc: Global, last: u32) -> Result<String, AllocError> {
 
 fn searching_of(rt: &impl Abort, alloc: Global, line: &str) -> Result<Searching, Fail> {
     match read_pieces(alloc, line, "", "")? {
-        Command::SearchFiles(searching) => Ok(searching),
+        Command::Do(Change::Searched(searching)) => Ok(searching),
         _ => panic!(rt; "no search: {line}"),
     }
 }
@@ -160,7 +160,7 @@ const OTHER_FIELDS: [&str; 4] = [
 fn questions_for_queues_are_read(rt: HostRuntime) -> Result<(), Fail> {
     for fields in OTHER_FIELDS {
         match read_pieces(rt.alloc(), "{\"do\":\"queues\"", fields, "}")? {
-            Command::Queues => {}
+            Command::Ask(Query::Queues) => {}
             _ => panic!(rt; "no question: {fields}"),
         }
     }
@@ -171,7 +171,7 @@ fn questions_for_queues_are_read(rt: HostRuntime) -> Result<(), Fail> {
 fn rebalance_jobs_are_read(rt: HostRuntime) -> Result<(), Fail> {
     for fields in OTHER_FIELDS {
         match read_pieces(rt.alloc(), "{\"do\":\"rebalance_job\"", fields, "}")? {
-            Command::RebalanceJob => {}
+            Command::Tend(Upkeep::Rebalance) => {}
             _ => panic!(rt; "no job: {fields}"),
         }
     }
