@@ -1,7 +1,9 @@
+use crate::out::Count;
+use crate::part::{Field, Part, put_object};
 use crate::{reply_len, write_reply, write_reply_line};
 use media_base::{
-    BytesSink, CallList, DecisionNo, FieldName, FileList, FileNo, FileRelations, ImportStatus,
-    Imported, PairList, QueueLengths, Refusal, Reply, SearchCounts, SearchDistance,
+    BytesSink, CallList, DecisionNo, FieldName, FileList, FileNo, FileRelations, Gather,
+    ImportStatus, Imported, PairList, QueueLengths, Refusal, Reply, SearchCounts, SearchDistance,
 };
 use std::alloc::Global;
 use std::process::Abort;
@@ -239,4 +241,59 @@ fn a_long_reply_goes_out_in_pieces(rt: HostRuntime) -> Result<(), Fail> {
     let reply = relations_with(rt.alloc(), members, FileList::new(rt.alloc()));
     assert_eq!(rt; reply_len(&reply), 10 + 180 + 2_700 + 4_000 + 1_999 + 56);
     assert_long(&rt, rt.alloc(), &reply)
+}
+
+fn assert_object(
+    rt: &impl Abort,
+    alloc: Global,
+    fields: &[Field<'_>],
+    want: &str,
+) -> Result<(), Fail> {
+    let mut count = Count(0);
+    put_object(fields, &mut count, &mut ())?;
+    assert_eq!(rt; count.0, want.len() as u64, "{want}");
+    let mut sink = sink_failing_at(alloc, 2)?;
+    let mut gather = Gather::new();
+    put_object(fields, &mut gather, &mut sink)?;
+    gather.flush(&mut sink)?;
+    assert_eq!(rt; sink.bytes().as_slice(), want.as_bytes());
+    Ok(())
+}
+
+// The texts are those that Python's json writes.
+#[test]
+fn texts_are_escaped(rt: HostRuntime) -> Result<(), Fail> {
+    let cases = [
+        ("", "{\"text\":\"\"}"),
+        ("plain", "{\"text\":\"plain\"}"),
+        ("a\"b", "{\"text\":\"a\\\"b\"}"),
+        ("\\", "{\"text\":\"\\\\\"}"),
+        ("/", "{\"text\":\"/\"}"),
+        (
+            "\u{8}\u{9}\u{a}\u{c}\u{d}",
+            "{\"text\":\"\\b\\t\\n\\f\\r\"}",
+        ),
+        ("\u{0}\u{1}", "{\"text\":\"\\u0000\\u0001\"}"),
+        ("\u{b}\u{e}\u{1f}", "{\"text\":\"\\u000b\\u000e\\u001f\"}"),
+        (" \u{7f}", "{\"text\":\" \u{7f}\"}"),
+        ("é€𝄞", "{\"text\":\"é€𝄞\"}"),
+    ];
+    for (text, want) in cases {
+        assert_object(&rt, rt.alloc(), &[("text", Part::Text(text))], want)?;
+    }
+    Ok(())
+}
+
+#[test]
+fn lists_of_texts_are_written(rt: HostRuntime) -> Result<(), Fail> {
+    let alloc = rt.alloc();
+    let none = [("texts", Part::Texts(&[]))];
+    assert_object(&rt, alloc, &none, "{\"texts\":[]}")?;
+    let some = [
+        ("texts", Part::Texts(&["a", "", "\"b"])),
+        ("n", Part::Number(0)),
+    ];
+    let want = "{\"texts\":[\"a\",\"\",\"\\\"b\"],\"n\":0}";
+    assert_object(&rt, alloc, &some, want)?;
+    assert_object(&rt, alloc, &[], "{}")
 }
