@@ -1,2 +1,3 @@
-mod FirstItem
-mod Putting
+mod Joining
+mod Sending
+mod Steps

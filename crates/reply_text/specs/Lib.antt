@@ -1,1 +1,5 @@
+pub mod Fields
+pub mod Parts
+pub mod Putting
+pub mod PuttingLaws
 pub mod ReplyText

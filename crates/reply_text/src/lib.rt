@@ -3,13 +3,11 @@
 //! A reply is one line of JSON without spaces. Neither writing it nor measuring it takes memory.
 #![tactic(auto)]
 
-mod named_list;
-mod pieces;
-mod reply_size;
+mod out;
+mod part;
 mod writing;
 
-pub use reply_size::reply_len;
-pub use writing::{write_reply, write_reply_line};
+pub use writing::{reply_len, write_reply, write_reply_line};
 
 #[cfg(test)]
 mod tests;

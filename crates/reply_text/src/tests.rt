@@ -1,7 +1,10 @@
+use crate::out::Count;
+use crate::part::{Field, Part, put_object};
 use crate::{reply_len, write_reply, write_reply_line};
 use media_base::{
-    BytesSink, CallList, DecisionNo, FieldName, FileList, FileNo, FileRelations, ImportStatus,
-    Imported, PairList, QueueLengths, Refusal, Reply, SearchCounts, SearchDistance,
+    Answer, BytesSink, CallList, DecisionNo, FieldName, FileList, FileNo, FileRelations, Gather,
+    ImportStatus, Imported, PairList, QueueLengths, Refusal, Reply, SearchCounts, SearchDistance,
+    Unmet,
 };
 use std::alloc::Global;
 use std::process::Abort;
@@ -46,10 +49,10 @@ fn assert_texts(rt: &impl Abort, alloc: Global, cases: &[(Reply, &str)]) -> Resu
 #[test]
 fn changes_are_answered(rt: HostRuntime) -> Result<(), Fail> {
     let imported = |file, status| {
-        Reply::Imported(Imported {
+        Ok(Answer::Imported(Imported {
             file: FileNo(file),
             status,
-        })
+        }))
     };
     let cases = [
         (imported(0, ImportStatus::New), "{\"file\":0,\"status\":1}"),
@@ -61,12 +64,12 @@ fn changes_are_answered(rt: HostRuntime) -> Result<(), Fail> {
             imported(0, ImportStatus::Deleted),
             "{\"file\":0,\"status\":3}",
         ),
-        (Reply::Changed(true), "{\"changed\":true}"),
-        (Reply::Changed(false), "{\"changed\":false}"),
-        (Reply::Decided(DecisionNo(10)), "{\"decision\":10}"),
-        (Reply::Undone(DecisionNo(0)), "{\"undone\":0}"),
+        (Ok(Answer::Changed(true)), "{\"changed\":true}"),
+        (Ok(Answer::Changed(false)), "{\"changed\":false}"),
+        (Ok(Answer::Decided(DecisionNo(10))), "{\"decision\":10}"),
+        (Ok(Answer::Undone(DecisionNo(0))), "{\"undone\":0}"),
         (
-            Reply::Undone(DecisionNo(4_294_967_295)),
+            Ok(Answer::Undone(DecisionNo(4_294_967_295))),
             "{\"undone\":4294967295}",
         ),
     ];
@@ -75,10 +78,13 @@ fn changes_are_answered(rt: HostRuntime) -> Result<(), Fail> {
 
 #[test]
 fn searches_are_answered(rt: HostRuntime) -> Result<(), Fail> {
-    let counts = |searched, left| Reply::Searched(SearchCounts { searched, left });
-    let queues = |search, display| Reply::Queues(QueueLengths { search, display });
+    let counts = |searched, left| Ok(Answer::Searched(SearchCounts { searched, left }));
+    let queues = |search, display| Ok(Answer::Queues(QueueLengths { search, display }));
     let cases = [
-        (Reply::Distance(SearchDistance::first()), "{\"distance\":8}"),
+        (
+            Ok(Answer::Distance(SearchDistance::first())),
+            "{\"distance\":8}",
+        ),
         (counts(1, 0), "{\"searched\":1,\"left\":0}"),
         (
             counts(1_024, u64::MAX),
@@ -86,7 +92,7 @@ fn searches_are_answered(rt: HostRuntime) -> Result<(), Fail> {
         ),
         (queues(0, 0), "{\"search\":0,\"display\":0}"),
         (queues(999_999, 12), "{\"search\":999999,\"display\":12}"),
-        (Reply::Rebalanced, "{\"done\":true}"),
+        (Ok(Answer::Rebalanced), "{\"done\":true}"),
     ];
     assert_texts(&rt, rt.alloc(), &cases)
 }
@@ -97,7 +103,7 @@ fn assert_pairs(
     rows: &[(FileNo, FileNo, u8)],
     want: &str,
 ) -> Result<(), Fail> {
-    let reply = Reply::Pairs(PairList::from_rows(rows.to_vec(alloc)?));
+    let reply = Ok(Answer::Pairs(PairList::from_rows(rows.to_vec(alloc)?)));
     assert_text(rt, alloc, &reply, want)
 }
 
@@ -115,9 +121,9 @@ fn pairs_are_answered(rt: HostRuntime) -> Result<(), Fail> {
 #[test]
 fn counts_of_pairs_are_answered(rt: HostRuntime) -> Result<(), Fail> {
     let cases = [
-        (Reply::PairCount(2), "{\"count\":2}"),
+        (Ok(Answer::PairCount(2)), "{\"count\":2}"),
         (
-            Reply::PairCount(u64::MAX),
+            Ok(Answer::PairCount(u64::MAX)),
             "{\"count\":18446744073709551615}",
         ),
     ];
@@ -129,12 +135,12 @@ fn files(alloc: Global, numbers: &[FileNo]) -> Result<FileList, Fail> {
 }
 
 fn relations_with(alloc: Global, members: FileList, alternates: FileList) -> Reply {
-    Reply::Relations(FileRelations {
+    Ok(Answer::Relations(FileRelations {
         king: FileNo(0),
         members,
         alternates,
         not_related: FileList::new(alloc),
-    })
+    }))
 }
 
 #[test]
@@ -152,7 +158,7 @@ fn relations_are_answered(rt: HostRuntime) -> Result<(), Fail> {
 
 fn assert_refusals(rt: &impl Abort, alloc: Global, cases: &[(Refusal, &str)]) -> Result<(), Fail> {
     for (refusal, want) in cases {
-        assert_text(rt, alloc, &Reply::Refused(*refusal), want)?;
+        assert_text(rt, alloc, &Err(*refusal), want)?;
     }
     Ok(())
 }
@@ -186,13 +192,28 @@ fn refusals_are_written(rt: HostRuntime) -> Result<(), Fail> {
         (Refusal::TooManyHashes, "{\"error\":\"too_many_hashes\"}"),
         (Refusal::BadDistance, "{\"error\":\"bad_distance\"}"),
         (Refusal::BadNumber, "{\"error\":\"bad_number\"}"),
-        (Refusal::UnknownFile, "{\"error\":\"unknown_file\"}"),
-        (Refusal::SameFile, "{\"error\":\"same_file\"}"),
-        (Refusal::UnknownDecision, "{\"error\":\"unknown_decision\"}"),
-        (Refusal::AlreadyUndone, "{\"error\":\"already_undone\"}"),
-        (Refusal::FullFiles, "{\"error\":\"full_files\"}"),
-        (Refusal::FullNear, "{\"error\":\"full_near\"}"),
-        (Refusal::FullDecisions, "{\"error\":\"full_decisions\"}"),
+        (
+            Refusal::Unmet(Unmet::UnknownFile),
+            "{\"error\":\"unknown_file\"}",
+        ),
+        (Refusal::Unmet(Unmet::SameFile), "{\"error\":\"same_file\"}"),
+        (
+            Refusal::Unmet(Unmet::UnknownDecision),
+            "{\"error\":\"unknown_decision\"}",
+        ),
+        (
+            Refusal::Unmet(Unmet::AlreadyUndone),
+            "{\"error\":\"already_undone\"}",
+        ),
+        (
+            Refusal::Unmet(Unmet::FullFiles),
+            "{\"error\":\"full_files\"}",
+        ),
+        (Refusal::Unmet(Unmet::FullNear), "{\"error\":\"full_near\"}"),
+        (
+            Refusal::Unmet(Unmet::FullDecisions),
+            "{\"error\":\"full_decisions\"}",
+        ),
         (Refusal::NoMemory, "{\"error\":\"no_memory\"}"),
         (Refusal::JournalFull, "{\"error\":\"journal_full\"}"),
         (Refusal::NotKept, "{\"error\":\"not_kept\"}"),
@@ -203,7 +224,7 @@ fn refusals_are_written(rt: HostRuntime) -> Result<(), Fail> {
 #[test]
 fn a_sink_that_fails_at_once_takes_nothing(rt: HostRuntime) -> Result<(), Fail> {
     let mut sink = sink_failing_at(rt.alloc(), 1)?;
-    assert!(rt; write_reply(&Reply::Decided(DecisionNo(1)), &mut sink).is_err());
+    assert!(rt; write_reply(&Ok(Answer::Decided(DecisionNo(1))), &mut sink).is_err());
     assert!(rt; sink.bytes().is_empty());
     Ok(())
 }
@@ -239,4 +260,59 @@ fn a_long_reply_goes_out_in_pieces(rt: HostRuntime) -> Result<(), Fail> {
     let reply = relations_with(rt.alloc(), members, FileList::new(rt.alloc()));
     assert_eq!(rt; reply_len(&reply), 10 + 180 + 2_700 + 4_000 + 1_999 + 56);
     assert_long(&rt, rt.alloc(), &reply)
+}
+
+fn assert_object(
+    rt: &impl Abort,
+    alloc: Global,
+    fields: &[Field<'_>],
+    want: &str,
+) -> Result<(), Fail> {
+    let mut count = Count(0);
+    put_object(fields, &mut count, &mut ())?;
+    assert_eq!(rt; count.0, want.len() as u64, "{want}");
+    let mut sink = sink_failing_at(alloc, 2)?;
+    let mut gather = Gather::new();
+    put_object(fields, &mut gather, &mut sink)?;
+    gather.flush(&mut sink)?;
+    assert_eq!(rt; sink.bytes().as_slice(), want.as_bytes());
+    Ok(())
+}
+
+// The texts are those that Python's json writes.
+#[test]
+fn texts_are_escaped(rt: HostRuntime) -> Result<(), Fail> {
+    let cases = [
+        ("", "{\"text\":\"\"}"),
+        ("plain", "{\"text\":\"plain\"}"),
+        ("a\"b", "{\"text\":\"a\\\"b\"}"),
+        ("\\", "{\"text\":\"\\\\\"}"),
+        ("/", "{\"text\":\"/\"}"),
+        (
+            "\u{8}\u{9}\u{a}\u{c}\u{d}",
+            "{\"text\":\"\\b\\t\\n\\f\\r\"}",
+        ),
+        ("\u{0}\u{1}", "{\"text\":\"\\u0000\\u0001\"}"),
+        ("\u{b}\u{e}\u{1f}", "{\"text\":\"\\u000b\\u000e\\u001f\"}"),
+        (" \u{7f}", "{\"text\":\" \u{7f}\"}"),
+        ("é€𝄞", "{\"text\":\"é€𝄞\"}"),
+    ];
+    for (text, want) in cases {
+        assert_object(&rt, rt.alloc(), &[("text", Part::Text(text))], want)?;
+    }
+    Ok(())
+}
+
+#[test]
+fn lists_of_texts_are_written(rt: HostRuntime) -> Result<(), Fail> {
+    let alloc = rt.alloc();
+    let none = [("texts", Part::Texts(&[]))];
+    assert_object(&rt, alloc, &none, "{\"texts\":[]}")?;
+    let some = [
+        ("texts", Part::Texts(&["a", "", "\"b"])),
+        ("n", Part::Number(0)),
+    ];
+    let want = "{\"texts\":[\"a\",\"\",\"\\\"b\"],\"n\":0}";
+    assert_object(&rt, alloc, &some, want)?;
+    assert_object(&rt, alloc, &[], "{}")
 }

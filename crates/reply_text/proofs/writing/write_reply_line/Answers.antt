@@ -1,4 +1,4 @@
-use Rattle.reply_text.proofs.Putting.{sends_all}
+use Rattle.reply_text.proofs.Sending.{sends_all}
 use Rattle.reply_text.proofs.writing.write_reply_line.Goals as goal
 
 pub returns-clause-sends : goal.returns-clause-sends
