@@ -1,6 +1,7 @@
 -- How many rows are read for the near pairs of files.
 use Rattle.std.proofs.Common.{◌≡◌, ◌∙◌, ◌<◌, ◌≤◌, ◌+◌, ◌*◌, ◌==◌, ◌||◌, ℕ, zero, suc, Bool, true, false, cond, List, [], ◌∷◌, Option, Some, None, length, map, filter, get_or, refl, sym, ap, inl, inr, arith}
 use Rattle.std.specs.List.{AllPairs, sum_by}
+use Rattle.std.specs.List.Sorted.{IsStrictlySortedBy}
 use Rattle.std.proofs.lemmas.Bool.{cases_eq, eq-eqb, ne_eqb}
 use Rattle.std.proofs.lemmas.List.{get_or-map, length-map}
 use Rattle.std.proofs.lemmas.List.FromFn.{get_or-map-range_with_len, length-map-range_with_len}
@@ -16,6 +17,7 @@ use Rattle.relation_groups.specs.Moves.{is_moved, move_to, moves}
 use Rattle.relation_groups.specs.Relations.{Relations}
 use Rattle.relation_groups.specs.declared.moves.Move.{Move}
 use Rattle.potential_pairs.specs.Keeping.{AreNearRows, turned}
+use Rattle.potential_pairs.specs.Levels.{Ascend}
 use Rattle.potential_pairs.specs.Planning.{AscendByFile, has_file, is_moved_file, touched, with_changes}
 use Rattle.potential_pairs.specs.Potential.{Row}
 use Rattle.potential_pairs.proofs.OneFile.{apart-turned, same-test, value-turned}
@@ -53,19 +55,24 @@ none_before true None = refl
 none_before true (Some v) = refl
 none_before false v = refl
 
+none_ascend : Ascend {V = ℕ} []
+unfolding IsStrictlySortedBy
+none_ascend = tt
+
 higher_rows : (near others : List Row) (file : ℕ) → AreNearRows near others → length (filter (λ row. row.0.0 == file) others) ≡ length (filter (λ row. row.0.1 == file) near)
 higher_rows near others file rows =
     let higher = filter (λ (row : Row). row.0.0 == file) others in
     let second = filter (λ (row : Row). row.0.1 == file) near in
     let apart = apart-turned higher (apart-from_ascend higher (ascend-filter (λ (q : ℕ × ℕ). q.0 == file) others rows.others_sorted)) in
     let same : with_changes Some (turned higher) [] ≡ second = same_rows pair_order pair_exact (with_changes Some (turned higher) []) second
-    (sorted-with_changes Some (turned higher) [] tt) (ascend-filter (λ (q : ℕ × ℕ). q.1 == file) near rows.sorted) (λ q.
-    value-with_changes Some (turned higher) [] q apart tt
+    (sorted-with_changes Some (turned higher) [] none_ascend) (ascend-filter (λ (q : ℕ × ℕ). q.1 == file) near rows.sorted) (λ q.
+    value-with_changes Some (turned higher) [] q apart none_ascend
     ∙ ap (λ v. changed Some v None) (value-turned higher q.1 q.0 ∙ value-filter (λ (p : ℕ × ℕ). p.0 == file) others (q.1, q.0) ∙ ap (λ v. cond (q.1 == file) v None) (rows.turned q.0 q.1))
     ∙ none_before (q.1 == file) (value_of pair_cmp near q)
     ∙ sym (value-filter (λ (p : ℕ × ℕ). p.1 == file) near q)) in
+    let turn : Row → Row = λ row. ((row.0.1, row.0.0), row.1) in
     let count = length-all_new (turned higher) [] apart (λ q v has. refl) in
-    omega (arith, count, ap length same, length-map higher (λ (row : Row). ((row.0.1, row.0.0), row.1)))
+    omega (arith, count, ap length same, length-map higher turn)
 
 either : (a b : Bool) → b ≡ true → a || b ≡ true
 either true b passes = refl
@@ -87,55 +94,69 @@ higher_few near others file rows =
 -- ---- the near pairs of each moved file
 -- how many near pairs the moved files have, each by itself
 abbrev pub counts : List Row → List Move → ℕ
-counts near moves = sum_by (λ m. length (filter (λ row. has_file m.file.0 row.0) near)) moves
+counts near moved = sum_by (λ m. length (filter (λ row. has_file m.file.0 row.0) near)) moved
 
 abbrev times : ℕ → List Move → ℕ
-times f moves = sum_by (λ m. cond (m.file.0 == f) 1 0) moves
+times f moved = sum_by (λ m. cond (m.file.0 == f) 1 0) moved
 
 abbrev hits : ℕ × ℕ → List Move → ℕ
-hits files moves = sum_by (λ m. cond (has_file m.file.0 files) 1 0) moves
+hits files moved = sum_by (λ m. cond (has_file m.file.0 files) 1 0) moved
 
 one_more : (b : Bool) (row : Row) (rows : List Row) → length (cond b (row ∷ rows) rows) ≡ cond b 1 0 + length rows
 one_more true row rows = omega arith
 one_more false row rows = omega arith
 
-no_counts : (moves : List Move) → counts [] moves ≡ 0
+no_counts : (moved : List Move) → counts [] moved ≡ 0
 no_counts [] = refl
-no_counts (m ∷ moves) = sum_by-cons (λ (m : Move). length (filter (λ (row : Row). has_file m.file.0 row.0) [])) m moves ∙ no_counts moves
+no_counts (m ∷ moved) = omega (arith, sum_by-cons (λ (m : Move). length (filter (λ (row : Row). has_file m.file.0 row.0) [])) m moved, no_counts moved)
 
-counts_first : (row : Row) (near : List Row) (moves : List Move) → counts (row ∷ near) moves ≡ hits row.0 moves + counts near moves
+counts_first : (row : Row) (near : List Row) (moved : List Move) → counts (row ∷ near) moved ≡ hits row.0 moved + counts near moved
 counts_first row near [] = refl
-counts_first row near (m ∷ moves) =
-    omega (arith, sum_by-cons (λ (m : Move). length (filter (λ (r : Row). has_file m.file.0 r.0) (row ∷ near))) m moves, sum_by-cons (λ (m : Move). length (filter (λ (r : Row). has_file m.file.0 r.0) near)) m moves,
-    sum_by-cons (λ (m : Move). cond (has_file m.file.0 row.0) 1 0) m moves, one_more (has_file m.file.0 row.0) row (filter (λ (r : Row). has_file m.file.0 r.0) near), counts_first row near moves)
+counts_first row near (m ∷ moved) =
+    omega (
+      arith,
+      sum_by-cons (λ (m : Move). length (filter (λ (r : Row). has_file m.file.0 r.0) (row ∷ near))) m moved,
+      sum_by-cons (λ (m : Move). length (filter (λ (r : Row). has_file m.file.0 r.0) near)) m moved,
+      sum_by-cons (λ (m : Move). cond (has_file m.file.0 row.0) 1 0) m moved,
+      one_more (has_file m.file.0 row.0) row (filter (λ (r : Row). has_file m.file.0 r.0) near),
+      counts_first row near moved,
+    )
 
 either_one : (a b : Bool) → cond (a || b) 1 0 ≤ cond a 1 0 + cond b 1 0
 either_one true b = omega arith
 either_one false true = omega arith
 either_one false false = omega arith
 
-hits_parts : (files : ℕ × ℕ) (moves : List Move) → hits files moves ≤ times files.0 moves + times files.1 moves
+hits_parts : (files : ℕ × ℕ) (moved : List Move) → hits files moved ≤ times files.0 moved + times files.1 moved
 hits_parts files [] = omega arith
-hits_parts files (m ∷ moves) =
-    omega (arith, sum_by-cons (λ (m : Move). cond (has_file m.file.0 files) 1 0) m moves, sum_by-cons (λ (m : Move). cond (m.file.0 == files.0) 1 0) m moves,
-    sum_by-cons (λ (m : Move). cond (m.file.0 == files.1) 1 0) m moves, either_one (m.file.0 == files.0) (m.file.0 == files.1), hits_parts files moves)
+hits_parts files (m ∷ moved) =
+    omega (
+      arith,
+      sum_by-cons (λ (m : Move). cond (has_file m.file.0 files) 1 0) m moved,
+      sum_by-cons (λ (m : Move). cond (m.file.0 == files.0) 1 0) m moved,
+      sum_by-cons (λ (m : Move). cond (m.file.0 == files.1) 1 0) m moved,
+      either_one (m.file.0 == files.0) (m.file.0 == files.1),
+      hits_parts files moved,
+    )
 
-no_times : (f : ℕ) (moves : List Move) → ((k : ℕ) (d : Move) → k < length moves → f < (get_or moves k d).file.0) → times f moves ≡ 0
+no_times : (f : ℕ) (moved : List Move) → ((k : ℕ) (d : Move) → k < length moved → f < (get_or moved k d).file.0) → times f moved ≡ 0
 no_times f [] later = refl
-no_times f (m ∷ moves) later =
+no_times f (m ∷ moved) later =
     let here : f < m.file.0 = later zero m (omega arith) in
-    sum_by-cons (λ (m : Move). cond (m.file.0 == f) 1 0) m moves ∙ rw (ne_eqb m.file.0 f (λ same. omega arith)) (no_times f moves (λ k d within. later (suc k) d (omega arith)))
+    let first = sum_by-cons (λ (m : Move). cond (m.file.0 == f) 1 0) m moved in
+    rw (first, ne_eqb m.file.0 f (λ same. omega arith)) (omega (arith, no_times f moved (λ k d within. later (suc k) d (omega arith))))
 
-once : (f : ℕ) (moves : List Move) → AscendByFile moves → times f moves ≤ cond (is_moved_file moves f) 1 0
+once : (f : ℕ) (moved : List Move) → AscendByFile moved → times f moved ≤ cond (is_moved_file moved f) 1 0
 once f [] ascend = omega arith
-once f (m ∷ moves) ascend = elim (cases_eq m.file.0 f) [
+once f (m ∷ moved) ascend = elim (cases_eq m.file.0 f) [
   | inl same ↦
-      let none = no_times f moves (λ k d within. let after = ascend zero (suc k) d (omega arith) (omega arith) in omega (arith, after, same)) in
-      let first = sum_by-cons (λ (m : Move). cond (m.file.0 == f) 1 0) m moves in
+      let none = no_times f moved (λ k d within. let after = ascend zero (suc k) d (omega arith) (omega arith) in omega (arith, after, same)) in
+      let first = sum_by-cons (λ (m : Move). cond (m.file.0 == f) 1 0) m moved in
       rw (first, eq-eqb m.file.0 f same, none) (omega arith)
   | inr other ↦
-      let first = sum_by-cons (λ (m : Move). cond (m.file.0 == f) 1 0) m moves in
-      rw (first, ne_eqb m.file.0 f other) (once f moves (λ i j d before within. ascend (suc i) (suc j) d (omega arith) (omega arith)))
+      let first = sum_by-cons (λ (m : Move). cond (m.file.0 == f) 1 0) m moved in
+      let rest = once f moved (λ i j d before within. ascend (suc i) (suc j) d (omega arith) (omega arith)) in
+      rw (first, ne_eqb m.file.0 f other) (omega (arith, rest))
 ]
 
 both : (a b : Bool) → cond a 1 0 + cond b 1 0 ≤ 2 * cond (a || b) 1 0
@@ -145,11 +166,19 @@ both false true = omega arith
 both false false = omega arith
 
 -- a near pair has two files, so it is counted twice at most
-pub counts-touched : (near : List Row) (moves : List Move) → AscendByFile moves → counts near moves ≤ 2 * length (touched moves near)
-counts-touched [] moves ascend = omega (arith, no_counts moves)
-counts-touched (row ∷ near) moves ascend =
-    omega (arith, counts_first row near moves, hits_parts row.0 moves, once row.0.0 moves ascend, once row.0.1 moves ascend, both (is_moved_file moves row.0.0) (is_moved_file moves row.0.1),
-    one_more (is_moved_file moves row.0.0 || is_moved_file moves row.0.1) row (touched moves near), counts-touched near moves ascend)
+pub counts-touched : (near : List Row) (moved : List Move) → AscendByFile moved → counts near moved ≤ 2 * length (touched moved near)
+counts-touched [] moved ascend = omega (arith, no_counts moved)
+counts-touched (row ∷ near) moved ascend =
+    omega (
+      arith,
+      counts_first row near moved,
+      hits_parts row.0 moved,
+      once row.0.0 moved ascend,
+      once row.0.1 moved ascend,
+      both (is_moved_file moved row.0.0) (is_moved_file moved row.0.1),
+      one_more (is_moved_file moved row.0.0 || is_moved_file moved row.0.1) row (touched moved near),
+      counts-touched near moved ascend,
+    )
 
 -- ---- the moves of a plan
 pub moves_ascend : (n : ℕ) (R Q : Relations) → AscendByFile (moves n R Q)

@@ -92,11 +92,7 @@ impl PairDraft {
     }
 
     /// The new tally of a potential pair, where it has one. It counts as one read.
-    pub fn tally_of<L: Ledger>(
-        &self,
-        name: (u32, u32),
-        steps: &mut Steps<L>,
-    ) -> Option<Tally>
+    pub fn tally_of<L: Ledger>(&self, name: (u32, u32), steps: &mut Steps<L>) -> Option<Tally>
         ensures value { result ≡ value_of pair_cmp self.now.tallies name }
         ensures sorted { Ascend self.now.tallies }
         ensures steps { steps.new ≡ steps.old + 1 }

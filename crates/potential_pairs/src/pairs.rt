@@ -308,7 +308,7 @@ impl Pairs {
         moves: &MoveList,
         steps: &mut Steps<L>,
     ) -> Result<Vec<((u32, u32), u8)>, NoMemory>
-        requires ascend { AscendByFile moves.now }
+        requires { AscendByFile moves.now }
         ensures rows { IfOk result (λ pairs. pairs.items ≡ touched moves.now self.now.rows.near) }
         ensures reads { steps.new ≤ steps.old
             + 4 * (length moves.now + length (touched moves.now self.now.rows.near)) }

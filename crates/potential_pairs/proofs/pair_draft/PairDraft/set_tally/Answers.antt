@@ -1,7 +1,7 @@
 use Rattle.std.proofs.lemmas.Map.Views.{All-keys-insert_entry}
 use Rattle.spare_tables.specs.Order.{pair_cmp}
 use Rattle.potential_pairs.specs.Levels.{IsName}
-use Rattle.potential_pairs.proofs.pair_plan.PairPlan.set_tally.Goals as goal
+use Rattle.potential_pairs.proofs.pair_draft.PairDraft.set_tally.Goals as goal
 
 pub invariant_of-self-2 : goal.invariant_of-self-2
 invariant_of-self-2 c = record {
