@@ -1,7 +1,6 @@
 ghost use Rattle.std.specs.Prelude.{◌≡◌, ◌<◌};
 
 use super::*;
-use crate::standing::standing_decisions;
 use media_types::{Code, Decision, DecisionNo, FileNo, MAX_FILES, NoMemory, Steps};
 use std::alloc::Global;
 use std::marker::Brand;
@@ -18,16 +17,6 @@ fn better(a: u32, b: u32) -> Decision {
     }
 }
 
-#[test]
-fn an_undone_decision_does_not_stand(rt: HostRuntime) -> Result<(), Fail> {
-    let mut undone = DecisionRow::from(better(1, 2));
-    undone.undone = true;
-    let rows = [better(0, 1).into(), undone, better(0, 2).into()];
-    let found = standing_decisions(rt.alloc(), &rows)?;
-    assert_eq!(rt; found.as_slice(), [better(0, 1), better(0, 2)].as_slice());
-    Ok(())
-}
-
 fn assert_book<L: Ledger>(
     rt: &(impl Abort + Threads),
     alloc: Global,
@@ -39,21 +28,30 @@ fn assert_book<L: Ledger>(
 {
     let mut steps = Steps::<L>::new(rt, blank);
     let mut book = Book::new(alloc);
-    for _ in 0..2 {
+    for _ in 0..3 {
         book.reserve(&mut steps)?;
         assert!(rt; book.files() < MAX_FILES);
         book.add_file();
     }
-    book.reserve(&mut steps)?;
-    assert!(rt; book.files() == 2 && book.len() == 0);
-    let number = book.add(Code::Better, FileNo(0), FileNo(1));
-    assert_eq!(rt; number, DecisionNo(0));
-    assert_eq!(rt; book.standing(alloc)?.as_slice(), [better(0, 1)].as_slice());
-    assert!(rt; !book.row(number, &mut steps).undone);
-    assert!(rt; book.standing_without(number, alloc)?.is_empty());
-    book.undo(number);
-    assert!(rt; book.standing(alloc)?.is_empty());
-    assert!(rt; book.len() == 1);
+    assert!(rt; book.files() == 3 && book.len() == 0);
+    let decisions = [better(0, 1), better(1, 2), better(0, 2)];
+    for (number, decision) in decisions.iter().enumerate() {
+        book.reserve(&mut steps)?;
+        let Decision { code, a, b } = *decision;
+        assert!(rt; a.0 < book.files() && b.0 < book.files() && a.0 != b.0 && book.len() < 9);
+        assert_eq!(rt; book.add(code, a, b), DecisionNo(number as u32));
+    }
+    let undone = DecisionNo(1);
+    assert!(rt; book.len() == 3 && !book.row(undone, &mut steps).undone);
+    let all = book.standing(alloc, &mut steps)?;
+    assert_eq!(rt; all.as_slice(), decisions.as_slice());
+    let others = [better(0, 1), better(0, 2)];
+    let without = book.standing_without(undone, alloc, &mut steps)?;
+    assert_eq!(rt; without.as_slice(), others.as_slice());
+    book.undo(undone);
+    let left = book.standing(alloc, &mut steps)?;
+    assert_eq!(rt; left.as_slice(), others.as_slice());
+    assert!(rt; book.len() == 3);
     Ok(())
 }
 

@@ -103,7 +103,7 @@ impl Files {
     }
 
     /// Makes room for the file, and works out the row that it will have and its new words. Where the room
-    /// was missing, it may copy each row, word and holder.
+    /// was missing, it may copy each row and word.
     pub fn plan_import(&mut self, file: &NewFile) -> Result<ImportPlan, NoMemory>
         requires unknown { IsUnknown file.now.sha self.old.rows }
         requires few { length self.old.rows < MAX_FILES }
@@ -130,7 +130,7 @@ impl Files {
     }
 
     /// Puts the planned file last, in the room that was made, and gives its number. Its new words get the
-    /// next numbers. A hash that another file has too may move each later holder by a place.
+    /// next numbers. Holders of hashes move within one page of their table.
     pub fn commit_import(&mut self, plan: ImportPlan) -> FileNo
         requires { IsPlannedFor plan self.old }
         ensures rows { self.new.rows ≡ self.old.rows ++ plan.row ∷ [] }

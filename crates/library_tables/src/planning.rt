@@ -210,7 +210,7 @@ impl Tables {
         if self.book.row(number, steps).undone {
             return Ok(Refusal::AlreadyUndone.into());
         }
-        let standing = self.book.standing_without(number, self.alloc)?;
+        let standing = self.book.standing_without(number, self.alloc, steps)?;
         let files = all_files(self.alloc, self.files.len())?;
         library_machine::records_stay_fit();
         file_records::near_laws();

@@ -9,6 +9,7 @@ pub mod OfLevels
 pub mod OneFile
 pub mod Paging
 pub mod PlannedRows
+pub mod ReadRows
 pub mod Renaming
 pub mod Rows
 pub mod TallyRows

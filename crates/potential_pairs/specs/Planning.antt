@@ -1,5 +1,5 @@
 -- What is found by a search, and what a plan of the pairs does.
-use Rattle.std.specs.Prelude.{◌≡◌, ◌<◌, ◌≤◌, ◌==◌, ◌||◌, ℕ, Bool, if◌then◌else◌, filter, max, List, [], ◌∷◌, length, Option, Some, None, is_some, All}
+use Rattle.std.specs.Prelude.{◌≡◌, ◌<◌, ◌≤◌, ◌==◌, ◌||◌, ℕ, Bool, if◌then◌else◌, filter, max, List, [], ◌∷◌, length, Option, Some, None, is_some, All, AllPairs}
 use Rattle.std.specs.List.{list_any}
 use Rattle.std.specs.BTreeMap.{insert_entry}
 use Rattle.std.specs.BTreeSet.{insert_key}
@@ -77,6 +77,10 @@ is_moved_file moves f = list_any (λ m. m.file.0 == f) moves
 -- how many near pairs the tally of a name counts at a distance once a plan is carried out on these pairs
 unfoldable pub planned_count : PlanView → PairsView → ℕ × ℕ → ℕ → ℕ
 planned_count plan rows name d = count_at (value_of pair_cmp (after plan rows).tallies name) d
+
+-- the moves come in the order of their files, each of another one
+abbrev pub AscendByFile : List Move → Type 0
+AscendByFile moves = AllPairs (λ a b. a.file.0 < b.file.0) moves
 
 -- the near pair is of this file
 abbrev pub has_file : ℕ → ℕ × ℕ → Bool

@@ -7,6 +7,7 @@ mod distance_map;
 mod heads;
 mod names;
 mod near_map;
+mod pair_draft;
 mod pair_plan;
 mod pairs;
 mod tally;

@@ -1,4 +1,4 @@
-ghost use Rattle.std.specs.Prelude.{◌≡◌, ◌≤◌, ◌+◌, ◌==◌, ◌||◌, ℕ, Bool, [], Some, All, is_some, length, filter, OnOk};
+ghost use Rattle.std.specs.Prelude.{◌≡◌, ◌≤◌, ◌+◌, ◌*◌, ◌||◌, ℕ, Bool, [], Some, All, is_some, length, filter, OnOk};
 ghost use Rattle.std.specs.Map.{values_of};
 ghost use Rattle.spare_tables.specs.Keys.{value_of};
 ghost use Rattle.spare_tables.specs.Order.{pair_cmp};
@@ -7,7 +7,7 @@ ghost use Rattle.potential_pairs.specs.Levels.{Ascend, IsDistance};
 ghost use Rattle.potential_pairs.specs.Planning.{has_file, with_changes};
 
 use media_types::{FileNo, NoMemory, Steps};
-use spare_tables::KeyMap;
+use spare_tables::{FirstWalk, KeyMap};
 use std::alloc::Global;
 use std::marker::Model;
 use std::sync::ledger::Ledger;
@@ -87,7 +87,7 @@ impl NearMap {
         self.lower_first.len()
     }
 
-    /// Adds the near pairs of a file to those that pass a test.
+    /// Adds the near pairs of a file to those that pass a test. Each is read once or twice.
     pub fn add_of_file<L: Ledger>(
         &self,
         file: FileNo,
@@ -97,34 +97,46 @@ impl NearMap {
         ensures rows { OnOk result ((test : ℕ × ℕ → Bool)
             → pairs.old.rows ≡ filter (λ row. test row.0) self.now.rows
             → pairs.new.rows ≡ filter (λ row. test row.0 || has_file file.0 row.0) self.now.rows) }
-        ensures steps { steps.new ≡ steps.old + 4 }
+        ensures reads { steps.new ≤ steps.old
+            + (4 + 2 * length (filter (λ row. has_file file.0 row.0) self.now.rows)) }
     {
-        let lower = rows_of(&self.lower_first, file.0, steps);
-        let higher = rows_of(&self.higher_first, file.0, steps);
-        pairs.reserve(lower.len())?;
-        insert_all(pairs, lower);
-        pairs.reserve(higher.len())?;
-        insert_turned(pairs, higher);
-        Ok(())
+        let lower = self.lower_first.walk_first(file.0, steps);
+        insert_walked(pairs, lower, steps)?;
+        let higher = self.higher_first.walk_first(file.0, steps);
+        insert_walked_turned(pairs, higher, steps)
     }
 }
 
-// The rows of a first file, found by halving twice.
-fn rows_of<'a, L: Ledger>(
-    map: &'a FilePairs,
-    first: u32,
+// Adds rows that are walked.
+fn insert_walked<L: Ledger>(
+    map: &mut FilePairs,
+    mut walk: FirstWalk<'_, u8>,
     steps: &mut Steps<L>,
-) -> &'a [((u32, u32), u8)]
-    ensures rows { result.now ≡ filter (λ row. row.0.0 == first) map.now.rows }
-    ensures steps { steps.new ≡ steps.old + 2 }
+) -> Result<(), NoMemory>
+    ensures rows { OnOk result (map.new.rows ≡ with_changes Some walk.entry map.old.rows) }
+    ensures reads { steps.new ≤ steps.old + (1 + length walk.entry) }
 {
-    steps.tick();
-    steps.tick();
-    let rows = map.as_slice();
-    let start = rows.partition_point(|row| row.0.0 < first);
-    let rest = &rows[start..];
-    let end = rest.partition_point(|row| row.0.0 <= first);
-    &rest[..end]
+    while let Some((files, distance)) = walk.next(steps) {
+        map.reserve(1)?;
+        map.insert(files, distance);
+    }
+    Ok(())
+}
+
+// Adds rows that are walked, with the two files in the other order.
+fn insert_walked_turned<L: Ledger>(
+    map: &mut FilePairs,
+    mut walk: FirstWalk<'_, u8>,
+    steps: &mut Steps<L>,
+) -> Result<(), NoMemory>
+    ensures rows { OnOk result (map.new.rows ≡ with_changes Some (turned walk.entry) map.old.rows) }
+    ensures reads { steps.new ≤ steps.old + (1 + length walk.entry) }
+{
+    while let Some(((f, g), distance)) = walk.next(steps) {
+        map.reserve(1)?;
+        map.insert((g, f), distance);
+    }
+    Ok(())
 }
 
 // Sets the distances of pairs in the room that was made.

@@ -14,11 +14,12 @@ ghost use Rattle.potential_pairs.specs.Keeping.{AreTallyRows};
 ghost use Rattle.potential_pairs.specs.Levels.{Ascend, IsDistance, IsName};
 ghost use Rattle.potential_pairs.specs.Naming.{AreCounted, count_named, live_name, weight};
 ghost use Rattle.potential_pairs.specs.Pages.{named, page_of, within};
-ghost use Rattle.potential_pairs.specs.Planning.{AreFound, after, has_file, planned_count, room_of, touched, with_found, with_live};
+ghost use Rattle.potential_pairs.specs.Planning.{AreFound, AscendByFile, after, has_file, planned_count, room_of, touched, with_found, with_live};
 ghost use Rattle.potential_pairs.specs.Potential.{AreBelow, AreOf, is_live};
 
 use crate::names::name_of;
 use crate::near_map::{FilePairs, NearMap};
+use crate::pair_draft::PairDraft;
 use crate::pair_plan::PairPlan;
 use crate::tally::Tally;
 use crate::tally_map::TallyMap;
@@ -97,10 +98,11 @@ impl Pairs {
         ensures reads { steps.new ≤ steps.old + 8 * length found.now }
     {
         self.in_order();
-        let mut plan = PairPlan::new(self.alloc);
+        let mut plan = PairDraft::new(self.alloc);
         for (f, g, distance) in found.as_slice() {
             self.plan_near(&mut plan, (*f, *g, *distance), groups, steps)?;
         }
+        let plan = plan.finish(self.alloc)?;
         self.reserve_for(&plan)?;
         Ok(plan)
     }
@@ -108,7 +110,7 @@ impl Pairs {
     // Plans to note one more near pair.
     fn plan_near<L: Ledger>(
         &self,
-        plan: &mut PairPlan,
+        plan: &mut PairDraft,
         found: (FileNo, FileNo, u8),
         groups: &Groups,
         steps: &mut Steps<L>,
@@ -170,7 +172,7 @@ impl Pairs {
     // Plans that one more near pair of a distance makes the potential pair of this name, where it has one.
     fn plan_more<L: Ledger>(
         &self,
-        plan: &mut PairPlan,
+        plan: &mut PairDraft,
         name: Option<(u32, u32)>,
         distance: u8,
         steps: &mut Steps<L>,
@@ -194,7 +196,7 @@ impl Pairs {
     // Plans that one near pair of a distance less makes the potential pair of this name, where it has one.
     fn plan_less<L: Ledger>(
         &self,
-        plan: &mut PairPlan,
+        plan: &mut PairDraft,
         name: Option<(u32, u32)>,
         distance: u8,
         steps: &mut Steps<L>,
@@ -218,7 +220,7 @@ impl Pairs {
     // The tally of a potential pair once a plan is carried out.
     fn planned_tally<L: Ledger>(
         &self,
-        plan: &PairPlan,
+        plan: &PairDraft,
         name: (u32, u32),
         steps: &mut Steps<L>,
     ) -> Tally
@@ -290,11 +292,12 @@ impl Pairs {
         reading_laws();
         let touched = self.near_of_moved(moved.moves(), steps)?;
         let after = moved.groups_after(groups);
-        let mut plan = PairPlan::new(self.alloc);
+        let mut plan = PairDraft::new(self.alloc);
         for ((f, g), distance) in touched.as_slice() {
             let near = (FileNo(*f), FileNo(*g), *distance);
             self.plan_renamed(&mut plan, near, groups, after, steps)?;
         }
+        let plan = plan.finish(self.alloc)?;
         self.reserve_for(&plan)?;
         Ok(plan)
     }
@@ -304,21 +307,23 @@ impl Pairs {
         &self,
         moves: &MoveList,
         steps: &mut Steps<L>,
-    ) -> Result<FilePairs, NoMemory>
-        ensures rows { IfOk result (λ pairs. pairs.rows ≡ touched moves.now self.now.rows.near) }
-        ensures reads { steps.new ≤ steps.old + 4 * length moves.now }
+    ) -> Result<Vec<((u32, u32), u8)>, NoMemory>
+        requires { AscendByFile moves.now }
+        ensures rows { IfOk result (λ pairs. pairs.items ≡ touched moves.now self.now.rows.near) }
+        ensures reads { steps.new ≤ steps.old
+            + 4 * (length moves.now + length (touched moves.now self.now.rows.near)) }
     {
         let mut pairs = FilePairs::new(self.alloc);
         for moved in moves.as_slice() {
             self.near.add_of_file(moved.file, &mut pairs, steps)?;
         }
-        Ok(pairs)
+        pairs.into_vec(self.alloc)
     }
 
     // Plans that a near pair has the name that the groups give it after they have changed.
     fn plan_renamed<L: Ledger>(
         &self,
-        plan: &mut PairPlan,
+        plan: &mut PairDraft,
         near: (FileNo, FileNo, u8),
         groups: &Groups,
         after: &Groups,
@@ -368,9 +373,10 @@ impl Pairs {
             + 8 * (1 + length (filter (λ row. has_file file.0 row.0) self.old.rows.near)) }
     {
         self.in_order();
-        let mut plan = PairPlan::new(self.alloc);
+        let mut plan = PairDraft::new(self.alloc);
         self.plan_live_pairs(&mut plan, file, live, groups, steps)?;
         plan.set_live(file, live);
+        let plan = plan.finish(self.alloc)?;
         self.reserve_for(&plan)?;
         Ok(plan)
     }
@@ -378,7 +384,7 @@ impl Pairs {
     // Plans that each near pair of a file makes a potential pair again, or none any more.
     fn plan_live_pairs<L: Ledger>(
         &self,
-        plan: &mut PairPlan,
+        plan: &mut PairDraft,
         file: FileNo,
         live: bool,
         groups: &Groups,
@@ -392,7 +398,7 @@ impl Pairs {
             self.now.rows.near name d) }
         ensures near { plan.new.near ≡ plan.old.near }
         ensures reads { steps.new ≤ steps.old
-            + (5 + 3 * length (filter (λ row. has_file file.0 row.0) self.now.rows.near)) }
+            + (5 + 5 * length (filter (λ row. has_file file.0 row.0) self.now.rows.near)) }
     {
         self.in_order();
         if self.is_gone(file, steps) != live {
@@ -411,20 +417,21 @@ impl Pairs {
         &self,
         file: FileNo,
         steps: &mut Steps<L>,
-    ) -> Result<FilePairs, NoMemory>
-        ensures rows { IfOk result (λ pairs. pairs.rows
+    ) -> Result<Vec<((u32, u32), u8)>, NoMemory>
+        ensures rows { IfOk result (λ pairs. pairs.items
             ≡ filter (λ row. has_file file.0 row.0) self.now.rows.near) }
-        ensures reads { steps.new ≤ steps.old + 4 }
+        ensures reads { steps.new ≤ steps.old
+            + (4 + 2 * length (filter (λ row. has_file file.0 row.0) self.now.rows.near)) }
     {
         let mut pairs = FilePairs::new(self.alloc);
         self.near.add_of_file(file, &mut pairs, steps)?;
-        Ok(pairs)
+        pairs.into_vec(self.alloc)
     }
 
     // Plans that a near pair of a file makes a potential pair again, or none any more.
     fn plan_live_pair<L: Ledger>(
         &self,
-        plan: &mut PairPlan,
+        plan: &mut PairDraft,
         near: (FileNo, FileNo, u8),
         file: FileNo,
         live: bool,

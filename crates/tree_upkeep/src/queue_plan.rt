@@ -1,10 +1,11 @@
 use media_types::FileNo;
+use spare_tables::KeySet;
 use std::marker::Model;
 
 /// Another queue that is planned and not put in place yet. Dropping it is giving it up.
 #[derive(Debug, Drop)]
 pub struct QueuePlan {
-    pub(crate) files: Vec<FileNo>,
+    pub(crate) files: KeySet<FileNo>,
 }
 
 impl Model for QueuePlan {
@@ -14,7 +15,7 @@ impl Model for QueuePlan {
 
     ghost Value = { List FileNo };
 
-    ghost view = { λ plan. plan.files.items };
+    ghost view = { λ plan. plan.files.rows };
 
-    ghost invariant = { λ plan. Ascend plan.files.items };
+    ghost invariant = { λ plan. Ascend plan.files.rows };
 }

@@ -1,9 +1,10 @@
-ghost use Rattle.std.specs.Prelude.{◌≡◌, ◌+◌, ◌<◌, ◌≤◌, true, false, [], length, min, take, IfOk, IfErr, OnOk, OnErr};
+ghost use Rattle.std.specs.Prelude.{◌≡◌, ◌+◌, ◌<◌, ◌≤◌, true, false, [], length, min, take, IfOk, OnOk, OnErr};
 ghost use Rattle.std.specs.Bool.{OnTrue, OnFalse};
-ghost use Rattle.tree_upkeep.specs.Queue.{Ascend, below, noted};
+ghost use Rattle.tree_upkeep.specs.Queue.{Ascend, noted};
 
 use crate::queue_plan::QueuePlan;
 use media_types::{FileList, FileNo, NoMemory, Steps};
+use spare_tables::KeySet;
 use std::alloc::Global;
 use std::marker::Model;
 use std::sync::ledger::Ledger;
@@ -14,23 +15,22 @@ use std::sync::ledger::Ledger;
 #[derive(Drop)]
 #[derive_where(Debug)]
 pub struct Upkeep {
-    files: Vec<FileNo>,
+    files: KeySet<FileNo>,
     #[derive_where(skip(Debug))]
     alloc: Global,
 }
 
 impl Model for Upkeep {
-    ghost use Rattle.std.specs.Prelude.{◌-◌, vec_len, vec_capacity};
     ghost use Rattle.tree_upkeep.specs.Queue.{Work, Ascend};
 
     ghost Value = { Work };
 
     ghost view = { λ upkeep. record {
-      queue = upkeep.files.items;
-      spare = vec_capacity upkeep.files - vec_len upkeep.files;
+      queue = upkeep.files.rows;
+      spare = upkeep.files.spare;
     } };
 
-    ghost invariant = { λ upkeep. Ascend upkeep.files.items };
+    ghost invariant = { λ upkeep. Ascend upkeep.files.rows };
 }
 
 impl Upkeep {
@@ -40,24 +40,23 @@ impl Upkeep {
         ensures spare { result.spare ≡ 0 }
     {
         Upkeep {
-            files: Vec::new(alloc),
+            files: KeySet::new(alloc),
             alloc,
         }
     }
 
-    /// Makes room for one file more. Where the room was missing, it may copy each file of the queue.
+    /// Makes room for one file more. It moves no file of the queue.
     pub fn reserve(&mut self) -> Result<(), NoMemory>
         ensures queue { self.new.queue ≡ self.old.queue }
         ensures ok { OnOk result (1 ≤ self.new.spare) }
         ensures err { OnErr result (self.old.spare ≡ 0) }
         ensures spare { self.old.spare ≤ self.new.spare }
     {
-        self.files.reserve(1)?;
-        Ok(())
+        self.files.reserve(1)
     }
 
-    /// Puts a file into the queue, in the room that was made, or takes it out. Each greater file may move
-    /// by a place.
+    /// Puts a file into the queue, in the room that was made, or takes it out. Files of one page of the queue
+    /// may move.
     pub fn note(&mut self, file: FileNo, queued: bool)
         requires { OnTrue queued (1 ≤ self.old.spare) }
         ensures queue { self.new.queue ≡ noted file queued self.old.queue }
@@ -68,9 +67,9 @@ impl Upkeep {
         ensures taken_out { OnFalse queued (self.old.spare ≤ self.new.spare) }
     {
         if queued {
-            self.put_in(file);
+            self.files.insert(file);
         } else {
-            self.take_out(file);
+            self.files.remove(file);
         }
     }
 
@@ -79,7 +78,7 @@ impl Upkeep {
         ensures files { result ≡ length self.now.queue }
         ensures ascending { Ascend self.now.queue }
     {
-        self.files.len() as u64
+        self.files.len()
     }
 
     /// The lowest files of the queue, as many as asked for, or all where there are fewer. Each is a read,
@@ -90,11 +89,14 @@ impl Upkeep {
         ensures reads { IfOk result (λ files. steps.old + length files ≤ steps.new) }
         ensures few_reads { steps.new ≤ steps.old + min n (length self.now.queue) + 1 }
     {
-        let given = self.files.len().min(n as usize);
+        let given = self.files.len().min(u64::from(n)) as usize;
         let mut files = FileList::with_room(self.alloc, given)?;
-        for file in &self.files[..given] {
-            steps.tick();
-            files.push(*file)?;
+        let mut walk = self.files.walk();
+        for _ in 0..given {
+            let Some(file) = walk.next(steps) else {
+                unreachable!()
+            };
+            files.push(file)?;
         }
         Ok(files)
     }
@@ -106,9 +108,10 @@ impl Upkeep {
         ensures queue { self.new.queue ≡ self.old.queue }
         ensures spare { self.old.spare ≤ self.new.spare }
     {
-        Ok(QueuePlan {
-            files: Vec::from_slice(self.alloc, files.as_slice())?,
-        })
+        let mut planned = KeySet::new(self.alloc);
+        planned.reserve(files.len())?;
+        put_in_order(&mut planned, files.as_slice());
+        Ok(QueuePlan { files: planned })
     }
 
     /// Puts the planned queue in place of the old one. Its room is its own: what was made before is gone.
@@ -118,38 +121,16 @@ impl Upkeep {
     {
         self.files = plan.files;
     }
+}
 
-    fn put_in(&mut self, file: FileNo)
-        requires { 1 ≤ self.old.spare }
-        ensures queue { self.new.queue ≡ noted file true self.old.queue }
-        ensures ascending { Ascend self.new.queue }
-        ensures spare { self.old.spare ≤ self.new.spare + 1 }
-    {
-        if let Err(at) = self.place(file) {
-            match self.files.insert(at, file) {
-                Ok(()) => {}
-                Err(_) => unreachable!(),
-            }
-        }
-    }
-
-    fn take_out(&mut self, file: FileNo)
-        ensures queue { self.new.queue ≡ noted file false self.old.queue }
-        ensures ascending { Ascend self.new.queue }
-        ensures spare { self.old.spare ≤ self.new.spare }
-    {
-        if let Ok(at) = self.place(file) {
-            self.files.remove(at);
-        }
-    }
-
-    // Where the file stands, or where it would stand.
-    fn place(&self, file: FileNo) -> Result<usize, usize>
-        ensures found { OnOk result (self.now.queue ≡ noted file true self.now.queue) }
-        ensures missing { OnErr result (self.now.queue ≡ noted file false self.now.queue) }
-        ensures at { IfOk result (λ at. at ≡ length (below file self.now.queue)) }
-        ensures gap { IfErr result (λ at. at ≡ length (below file self.now.queue)) }
-    {
-        self.files.binary_search(&file)
+// Puts ascending files into a set that has none, in the room that was made.
+fn put_in_order(set: &mut KeySet<FileNo>, files: &[FileNo])
+    requires none { set.old.rows ≡ [] }
+    requires room { length files.now ≤ set.old.spare }
+    requires ascending { Ascend files.now }
+    ensures { set.new.rows ≡ files.now }
+{
+    for file in files {
+        set.insert(*file);
     }
 }

@@ -58,10 +58,11 @@ loop-f-preserved g c =
 
 pub returns-clause-gone : goal.returns-clause-gone
 returns-clause-gone g c =
-    after-live c.loop-f.plan c.reserve_for.new.self.rows None c.loop-f.invariant.live ∙ ap (λ (rows : PairsView). rows.gone) c.reserve_for.ensures.rows
+    ap (λ (p : PlanView). (after p c.reserve_for.new.self.rows).gone) c.in_ok-plan.ensures ∙ after-live c.loop-f.plan c.reserve_for.new.self.rows None c.loop-f.invariant.live ∙ ap (λ (rows : PairsView). rows.gone) c.reserve_for.ensures.rows
 
 pub returns-clause-of_after : goal.returns-clause-of_after
 returns-clause-of_after g c =
     let R : Relations = relations_in c.args.groups.now in
     let plan : PlanView = c.loop-f.plan in
-    subst (λ (rows : PairsView). AreOf R (after plan rows)) (sym c.reserve_for.ensures.rows) (of-after R plan c.args.self.now.rows None c.loop-f.invariant.live c.in_order.ensures.kept c.loop-f.invariant.counted)
+    subst (λ (p : PlanView). AreOf R (after p c.reserve_for.new.self.rows)) (sym c.in_ok-plan.ensures)
+    (subst (λ (rows : PairsView). AreOf R (after plan rows)) (sym c.reserve_for.ensures.rows) (of-after R plan c.args.self.now.rows None c.loop-f.invariant.live c.in_order.ensures.kept c.loop-f.invariant.counted))

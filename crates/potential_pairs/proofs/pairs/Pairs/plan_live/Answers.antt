@@ -13,11 +13,11 @@ plan_live_pairs-requires-clause-counts g c =
 
 pub returns-clause-near : goal.returns-clause-near
 returns-clause-near g c =
-    after-near c.set_live.new.self c.reserve_for.new.self.rows (c.set_live.ensures.near ∙ c.plan_live_pairs.ensures.near ∙ c.new-plan.ensures.near) ∙ ap (λ (rows : PairsView). rows.near) c.reserve_for.ensures.rows
+    ap (λ (p : PlanView). (after p c.reserve_for.new.self.rows).near) c.in_ok-plan.ensures ∙ after-near c.set_live.new.self c.reserve_for.new.self.rows (c.set_live.ensures.near ∙ c.plan_live_pairs.ensures.near ∙ c.new-plan.ensures.near) ∙ ap (λ (rows : PairsView). rows.near) c.reserve_for.ensures.rows
 
 pub returns-clause-gone : goal.returns-clause-gone
 returns-clause-gone g c =
-    after-live c.set_live.new.self c.reserve_for.new.self.rows (Some (c.args.file, c.args.live)) c.set_live.ensures.live ∙ ap (λ (rows : PairsView). with_live (Some (c.args.file, c.args.live)) rows.gone) c.reserve_for.ensures.rows
+    ap (λ (p : PlanView). (after p c.reserve_for.new.self.rows).gone) c.in_ok-plan.ensures ∙ after-live c.set_live.new.self c.reserve_for.new.self.rows (Some (c.args.file, c.args.live)) c.set_live.ensures.live ∙ ap (λ (rows : PairsView). with_live (Some (c.args.file, c.args.live)) rows.gone) c.reserve_for.ensures.rows
 
 pub returns-clause-of_after : goal.returns-clause-of_after
 returns-clause-of_after g c =
@@ -29,5 +29,6 @@ returns-clause-of_after g c =
     let none = c.set_live.ensures.near ∙ c.plan_live_pairs.ensures.near ∙ c.new-plan.ensures.near in
     let counted : AreCounted (live_name R gone) (after whole rows) = counted-after (live_name R gone) whole rows (λ name d.
     planned_count-kept plan whole rows c.set_live.ensures.tallies name d ∙ c.in_ok-plan_live_pairs.ensures.counts name d ∙ ap (λ (near : List Row). count_named (live_name R gone) near name d) (sym (after-near whole rows none))) in
-    subst (λ (r : PairsView). AreOf R (after whole r)) (sym c.reserve_for.ensures.rows)
-    (of-after R whole rows (Some (c.args.file, c.args.live)) c.set_live.ensures.live c.in_order.ensures.kept counted)
+    subst (λ (p : PlanView). AreOf R (after p c.reserve_for.new.self.rows)) (sym c.in_ok-plan.ensures)
+    (subst (λ (r : PairsView). AreOf R (after whole r)) (sym c.reserve_for.ensures.rows)
+    (of-after R whole rows (Some (c.args.file, c.args.live)) c.set_live.ensures.live c.in_order.ensures.kept counted))

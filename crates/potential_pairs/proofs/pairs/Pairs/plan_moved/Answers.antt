@@ -8,10 +8,11 @@ use Rattle.relation_groups.specs.Relations.{Relations}
 use Rattle.relation_groups.specs.declared.moves.Move.{Move}
 use Rattle.potential_pairs.specs.Levels.{IsDistance}
 use Rattle.potential_pairs.specs.Naming.{AreCounted, count_named, live_name, weight}
-use Rattle.potential_pairs.specs.Planning.{PlanView, after, touched}
+use Rattle.potential_pairs.specs.Planning.{AscendByFile, PlanView, after, touched}
 use Rattle.potential_pairs.specs.Potential.{AreOf, PairsView, Row}
 use Rattle.potential_pairs.proofs.InStep.{value-within}
 use Rattle.potential_pairs.proofs.PlannedRows.{after-live, after-near, counted-after, counts-nothing, of-after}
+use Rattle.potential_pairs.proofs.ReadRows.{moves_ascend}
 use Rattle.potential_pairs.proofs.Renaming.{Name, chosen_value, waiting-all, waiting-more, waiting-none}
 use Rattle.potential_pairs.proofs.Touched.{below-value, has_moved, untouched_name}
 use Rattle.potential_pairs.proofs.pairs.Pairs.plan_moved.Goals as goal
@@ -23,6 +24,10 @@ IsBelow n row = (row.0.0 < row.0.1) × (row.0.1 < n)
 abbrev no_pair : Row
 no_pair = ((0, 0), 0)
 
+pub near_of_moved-requires : goal.near_of_moved-requires
+near_of_moved-requires g c =
+    subst AscendByFile (sym (c.moves.ensures ∙ c.requires.moves)) (moves_ascend (size_of c.args.groups.now) (relations_in c.args.groups.now) (relations_after c.args.moved.now c.args.groups.now))
+
 pub plan_renamed-requires-clause-lower : goal.plan_renamed-requires-clause-lower
 plan_renamed-requires-clause-lower g c =
     let n = size_of c.args.groups.now in
@@ -30,7 +35,7 @@ plan_renamed-requires-clause-lower g c =
     let moves : List Move = c.args.moved.now.moves in
     let list : List Row = c.as_slice-f-items.result.now in
     let i = c.loop-f.f-index in
-    let are : list ≡ touched moves near = c.as_slice-f-items.ensures.rows ∙ c.in_ok-touched.ensures.rows ∙ ap (λ ms. touched ms near) c.moves.ensures in
+    let are : list ≡ touched moves near = c.as_slice-f-items.ensures.value ∙ c.in_ok-touched.ensures.rows ∙ ap (λ ms. touched ms near) c.moves.ensures in
     let within : i < length (touched moves near) = omega (arith, c.loop-f-test.true, ap length are) in
     let here : IsBelow n (get_or (touched moves near) i no_pair) = All-filter (λ (row : Row). has_moved moves row.0) (IsBelow n) near c.requires.below i no_pair within in
     (subst (λ (rows : List Row). IsBelow n (get_or rows i no_pair)) (sym are) here).0
@@ -42,7 +47,7 @@ plan_renamed-requires-clause-there g c =
     let moves : List Move = c.args.moved.now.moves in
     let list : List Row = c.as_slice-f-items.result.now in
     let i = c.loop-f.f-index in
-    let are : list ≡ touched moves near = c.as_slice-f-items.ensures.rows ∙ c.in_ok-touched.ensures.rows ∙ ap (λ ms. touched ms near) c.moves.ensures in
+    let are : list ≡ touched moves near = c.as_slice-f-items.ensures.value ∙ c.in_ok-touched.ensures.rows ∙ ap (λ ms. touched ms near) c.moves.ensures in
     let within : i < length (touched moves near) = omega (arith, c.loop-f-test.true, ap length are) in
     let here : IsBelow n (get_or (touched moves near) i no_pair) = All-filter (λ (row : Row). has_moved moves row.0) (IsBelow n) near c.requires.below i no_pair within in
     (subst (λ (rows : List Row). IsBelow n (get_or rows i no_pair)) (sym are) here).1
@@ -53,7 +58,7 @@ plan_renamed-requires-clause-shallow g c =
     let moves : List Move = c.args.moved.now.moves in
     let list : List Row = c.as_slice-f-items.result.now in
     let i = c.loop-f.f-index in
-    let are : list ≡ touched moves near = c.as_slice-f-items.ensures.rows ∙ c.in_ok-touched.ensures.rows ∙ ap (λ ms. touched ms near) c.moves.ensures in
+    let are : list ≡ touched moves near = c.as_slice-f-items.ensures.value ∙ c.in_ok-touched.ensures.rows ∙ ap (λ ms. touched ms near) c.moves.ensures in
     let within : i < length (touched moves near) = omega (arith, c.loop-f-test.true, ap length are) in
     let R : Relations = relations_in c.args.groups.now in
     let naming : Name = live_name R c.args.self.now.rows.gone in
@@ -80,7 +85,7 @@ loop-f-init g c =
           ∙ sym (waiting-none rows.near old new c.in_order.ensures.near (has_moved list) others name d);
       near = c.new-plan.ensures.near;
       live = c.new-plan.ensures.live;
-      reads = omega (arith, c.in_ok-touched.ensures.reads, ap length c.moves.ensures);
+      reads = omega (arith, c.near_of_moved.ensures.reads, ap length c.moves.ensures, ap (λ ms. length (touched ms rows.near)) c.moves.ensures);
     }
 
 pub loop-f-preserved : goal.loop-f-preserved
@@ -89,7 +94,7 @@ loop-f-preserved g c =
     let moves : List Move = c.args.moved.now.moves in
     let list : List Row = c.as_slice-f-items.result.now in
     let i = c.loop-f.f-index in
-    let are : list ≡ touched moves near = c.as_slice-f-items.ensures.rows ∙ c.in_ok-touched.ensures.rows ∙ ap (λ ms. touched ms near) c.moves.ensures in
+    let are : list ≡ touched moves near = c.as_slice-f-items.ensures.value ∙ c.in_ok-touched.ensures.rows ∙ ap (λ ms. touched ms near) c.moves.ensures in
     let within : i < length (touched moves near) = omega (arith, c.loop-f-test.true, ap length are) in
     let R : Relations = relations_in c.args.groups.now in
     let Q : Relations = relations_after c.args.moved.now c.args.groups.now in
@@ -110,11 +115,11 @@ loop-f-preserved g c =
 
 pub returns-clause-near : goal.returns-clause-near
 returns-clause-near g c =
-    after-near c.loop-f.plan c.reserve_for.new.self.rows c.loop-f.invariant.near ∙ ap (λ (rows : PairsView). rows.near) c.reserve_for.ensures.rows
+    ap (λ (p : PlanView). (after p c.reserve_for.new.self.rows).near) c.in_ok-plan.ensures ∙ after-near c.loop-f.plan c.reserve_for.new.self.rows c.loop-f.invariant.near ∙ ap (λ (rows : PairsView). rows.near) c.reserve_for.ensures.rows
 
 pub returns-clause-gone : goal.returns-clause-gone
 returns-clause-gone g c =
-    after-live c.loop-f.plan c.reserve_for.new.self.rows None c.loop-f.invariant.live ∙ ap (λ (rows : PairsView). rows.gone) c.reserve_for.ensures.rows
+    ap (λ (p : PlanView). (after p c.reserve_for.new.self.rows).gone) c.in_ok-plan.ensures ∙ after-live c.loop-f.plan c.reserve_for.new.self.rows None c.loop-f.invariant.live ∙ ap (λ (rows : PairsView). rows.gone) c.reserve_for.ensures.rows
 
 pub returns-clause-of_after : goal.returns-clause-of_after
 returns-clause-of_after g c =
@@ -124,11 +129,12 @@ returns-clause-of_after g c =
     let rows : PairsView = c.args.self.now.rows in
     let moves : List Move = c.args.moved.now.moves in
     let list : List Row = c.as_slice-f-items.result.now in
-    let are : list ≡ touched moves rows.near = c.as_slice-f-items.ensures.rows ∙ c.in_ok-touched.ensures.rows ∙ ap (λ ms. touched ms rows.near) c.moves.ensures in
+    let are : list ≡ touched moves rows.near = c.as_slice-f-items.ensures.value ∙ c.in_ok-touched.ensures.rows ∙ ap (λ ms. touched ms rows.near) c.moves.ensures in
     let old : Name = live_name R rows.gone in
     let new : Name = live_name Q rows.gone in
     let counted : AreCounted new (after plan rows) = counted-after new plan rows (λ name d.
     c.loop-f.invariant.counts name d
     ∙ waiting-all rows.near old new c.in_order.ensures.near (has_moved moves) c.loop-f.f-index (omega (arith, c.loop-f-test.false, ap length are)) name d
     ∙ ap (λ (near : List Row). count_named new near name d) (sym (after-near plan rows c.loop-f.invariant.near))) in
-    subst (λ (r : PairsView). AreOf Q (after plan r)) (sym c.reserve_for.ensures.rows) (of-after Q plan rows None c.loop-f.invariant.live c.in_order.ensures.kept counted)
+    subst (λ (p : PlanView). AreOf Q (after p c.reserve_for.new.self.rows)) (sym c.in_ok-plan.ensures)
+    (subst (λ (r : PairsView). AreOf Q (after plan r)) (sym c.reserve_for.ensures.rows) (of-after Q plan rows None c.loop-f.invariant.live c.in_order.ensures.kept counted))

@@ -12,5 +12,5 @@ invariant-loop-f g l = record {
       (live_name (relations_in l.groups) l.fn.self.rows.gone) (live_name (relations_after l.moved l.groups) l.fn.self.rows.gone)) l.fn.self.rows.near name d;
   near : l.plan.near ≡ [];
   live : l.plan.live ≡ None;
-  reads : l.steps ≤ l.fn.steps + 4 * length l.moved.moves + 8 * l.f-index;
+  reads : l.steps ≤ l.fn.steps + (4 * (length l.moved.moves + length (touched l.moved.moves l.fn.self.rows.near)) + 8 * l.f-index);
 }

@@ -1,8 +1,10 @@
-use Rattle.std.proofs.Common.{◌≡◌, ◌+◌, take}
+use Rattle.std.proofs.Common.{◌≡◌, ◌+◌, ◌≤◌, ◌++◌, length}
 use Rattle.tree_upkeep.proofs.upkeep.Upkeep.next_search.Given as goal
 
-abbrev pub invariant-loop-file : goal.invariant-loop-file
-invariant-loop-file g l = record {
-  files : l.files ≡ take l.file-index l.file-items;
-  steps : l.steps ≡ l.initial.steps + l.file-index;
+abbrev pub invariant-loop : goal.invariant-loop
+invariant-loop g l = record {
+  rows : l.files ++ l.walk ≡ l.self.queue;
+  number : length l.files ≡ l.counter;
+  bound : l.counter ≤ l.given;
+  steps : l.steps ≡ l.initial.steps + l.counter;
 }
