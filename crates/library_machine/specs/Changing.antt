@@ -33,7 +33,7 @@ abbrev pub is_marked : Records → FileNo → Bool → Bool
 is_marked r f true = is_live r.files f.0
 is_marked r f false = not (is_live r.files f.0)
 
--- It would change nothing. A decision is recorded whether or not it has an effect.
+-- Whether it would change nothing. A decision is recorded whether or not it has an effect.
 unfoldable pub is_idle : Records → Change → Bool
 is_idle r (changes.File file) = is_known r file.sha
 is_idle r (changes.Live f live) = is_marked r f live

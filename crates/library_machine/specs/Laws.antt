@@ -67,12 +67,12 @@ ChangesKeepFit = (r : Records) (change : Change) → does r change ≡ Ok false 
 abbrev pub ChangesDiffer : Type 0
 ChangesDiffer = (r : Records) (change : Change) → does r change ≡ Ok false → effect r change ≢ r
 
--- the first of these needs that isn't met
+-- what is told for the first of these needs that isn't met
 abbrev pub Lacks : Records → List Need → Unmet → Type 0
 Lacks r needed why = IsFirstUnmet (Met r) unmet needed why
 
--- Why a command is refused: it lacks the first of its needs that isn't met, or so does the change that its job works
--- out. Upkeep is never refused.
+-- Why a command is refused: for the first of its needs that isn't met, or of the needs of the change that its job
+-- works out. Upkeep is never refused.
 abbrev pub Refuses : Records → Command → Unmet → Type 0
 Refuses r (commands.Ask q) why = Lacks r (query_needs q) why
 Refuses r (commands.Do c) why = Lacks r (needs c) why

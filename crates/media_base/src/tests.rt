@@ -112,7 +112,10 @@ fn names(rt: HostRuntime) {
         assert_eq!(rt; status.number(), number);
     }
     assert_eq!(rt; Refusal::from(NoMemory), Refusal::NoMemory);
-    assert_eq!(rt; Refusal::from(Unmet::FullNear), Refusal::Unmet(Unmet::FullNear));
+    assert_eq!(rt;
+        Refusal::from(Unmet::FullNear),
+        Refusal::Unmet(Unmet::FullNear)
+    );
 }
 
 #[test]
