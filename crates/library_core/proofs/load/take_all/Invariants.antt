@@ -1,6 +1,6 @@
 use Rattle.std.proofs.Common.{◌≡◌, ◌≤◌, Some, drop}
 use Rattle.media_base.specs.Keeping.{Readings}
-use Rattle.library_machine.specs.Changes.{opened, opened_from}
+use Rattle.library_machine.specs.Opening.{opened, opened_from}
 use Rattle.library_tables.specs.Tables.{records_of}
 use Rattle.library_core.proofs.load.take_all.Given as goal
 

@@ -6,12 +6,13 @@ ghost use Rattle.file_records.specs.Searching.{rising, searched};
 ghost use Rattle.relation_groups.specs.Reading.{relations_in};
 ghost use Rattle.potential_pairs.specs.Planning.{after};
 ghost use Rattle.near_search.specs.Work.{work};
-ghost use Rattle.library_machine.specs.Step as machine;
-ghost use Rattle.library_tables.specs.Tables.{IsPrepared, LeadsPairs, records_of};
+ghost use Rattle.media_base.specs.declared.command.Query.TheVariants as queries;
+ghost use Rattle.library_machine.specs.Asking as machine;
+ghost use Rattle.library_tables.specs.Pairs.{LeadsPairs};
+ghost use Rattle.library_tables.specs.Tables.{records_of};
 
-use crate::plan::Prepared;
 use crate::tables::Tables;
-use media_base::{FileNo, NoMemory, PairPage, Reply, SearchDistance, Steps};
+use media_base::{Answer, FileNo, NoMemory, PairPage, SearchDistance, Steps, Unmet};
 use near_search::find_near;
 use potential_pairs::{PairPlan, Pairs};
 use std::sync::ledger::Ledger;
@@ -54,27 +55,26 @@ impl Tables {
         &self.pairs
     }
 
-    #[tactic(auto, unfolding(library_machine::specs::Step::pairs))]
+    #[tactic(auto, unfolding(library_machine::specs::Asking::query_needs, library_machine::specs::Asking::answer))]
     pub(crate) fn tell_pairs<L: Ledger>(
         &self,
         page: PairPage,
         steps: &mut Steps<L>,
-    ) -> Result<Prepared, NoMemory>
-        ensures prepared { IfOk result (IsPrepared (machine.pairs (records_of self.now) page) self.now) }
+    ) -> Result<Result<Answer, Unmet>, NoMemory>
+        ensures answer { IfOk result (λ answer. answer ≡ machine.asked (records_of self.now) (queries.Pairs page)) }
         ensures reads { steps.new ≤ steps.old + (2 * page.n + 17) }
     {
         let PairPage { after, n, at_most } = page;
         let pairs = self
             .potential_pairs()
             .page(after, n.number(), at_most.bits(), steps)?;
-        Ok(Prepared::Told(Reply::Pairs(pairs)))
+        Ok(Ok(Answer::Pairs(pairs)))
     }
 
-    #[tactic(auto, unfolding(library_machine::specs::Step::pair_count))]
-    pub(crate) fn tell_pair_count(&self, at_most: SearchDistance) -> Prepared
-        ensures { IsPrepared (machine.pair_count (records_of self.now) at_most) self.now result }
+    #[tactic(auto, unfolding(library_machine::specs::Asking::answer))]
+    pub(crate) fn tell_pair_count(&self, at_most: SearchDistance) -> Answer
+        ensures { result ≡ machine.answer (records_of self.now) (queries.PairCount at_most) }
     {
-        let count = self.potential_pairs().count(at_most.bits());
-        Prepared::Told(Reply::PairCount(count))
+        Answer::PairCount(self.potential_pairs().count(at_most.bits()))
     }
 }

@@ -1,6 +1,6 @@
 use Rattle.std.proofs.Common.{◌≡◌, take}
 use Rattle.file_records.specs.Searching.{queue_of, searched}
-use Rattle.library_tables.proofs.searching.note_searched.Given as goal
+use Rattle.library_tables.proofs.searches.note_searched.Given as goal
 
 abbrev pub invariant-loop-file : goal.invariant-loop-file
 invariant-loop-file l = record {

@@ -4,8 +4,8 @@ use Rattle.media_types.specs.declared.numbers.FileNo.{FileNo}
 use Rattle.file_records.specs.Searching.{queue_of, searched}
 use Rattle.tree_upkeep.specs.Queue.{Work, noted}
 use Rattle.library_tables.proofs.Queueing.{other_file}
-use Rattle.library_tables.proofs.searching.note_searched.Goals as goal
-use Rattle.library_tables.proofs.searching.note_searched.Goals.{then-bits, else-bits}
+use Rattle.library_tables.proofs.searches.note_searched.Goals as goal
+use Rattle.library_tables.proofs.searches.note_searched.Goals.{then-bits, else-bits}
 
 pub loop-file-preserved : goal.loop-file-preserved
 loop-file-preserved c =
