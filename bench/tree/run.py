@@ -43,11 +43,11 @@ fn word_of(seed: u64) -> Hash64 {
     Hash64(z ^ (z >> 31))
 }
 
-fn is_new(tree: &Tree, word: Hash64) -> bool
+fn is_new<L: Ledger>(tree: &Tree, word: Hash64, steps: &mut Steps<L>) -> bool
     ensures { IsTrue result → All (λ node. node.word ≢ word) tree.now.rows }
 {
     for at in 0..tree.len() {
-        if tree.node(HashNo(at)).word.0 == word.0 {
+        if tree.node(HashNo(at), steps).word.0 == word.0 {
             return false;
         }
     }
@@ -57,7 +57,7 @@ fn is_new(tree: &Tree, word: Hash64) -> bool
 fn insert_all<L: Ledger>(tree: &mut Tree, steps: &mut Steps<L>) -> Result<(), NoMemory> {
     for seed in 0..WORDS {
         let word = word_of(seed + 1);
-        if tree.len() < 4_000_000 && is_new(tree, word) {
+        if tree.len() < 4_000_000 && is_new(tree, word, steps) {
             let plan = tree.plan_insert(word)?;
             let _ = tree.commit_insert(plan, steps);
         }
@@ -117,7 +117,7 @@ use Rattle.vp_tree.specs.Nodes.{node_at}
 use Rattle.tree_bench.proofs.is_new.Given as goal
 
 abbrev pub invariant-loop-at : goal.invariant-loop-at
-invariant-loop-at l = (k : ℕ) → k < l.at → (node_at l.tree.rows k).word.0 ≢ l.word.0
+invariant-loop-at g l = (k : ℕ) → k < l.at → (node_at l.tree.rows k).word.0 ≢ l.word.0
 """
 
 GHOSTS = """use Rattle.tree_bench.proofs.main.Given as goal

@@ -33,11 +33,11 @@ fn file_of(rt: &impl Abort, alloc: Global, number: u8, words: &[u64]) -> Result<
 }
 
 // Looks at each node, since a tree takes only words that aren't there.
-fn assert_new(rt: &impl Abort, tree: &Tree, word: Hash64)
+fn assert_new<L: Ledger>(rt: &impl Abort, tree: &Tree, word: Hash64, steps: &mut Steps<L>)
     ensures { All (λ node. node.word ≢ word) tree.now.rows }
 {
     for at in 0..tree.len() {
-        assert!(rt; tree.node(HashNo(at)).word.0 != word.0);
+        assert!(rt; tree.node(HashNo(at), steps).word.0 != word.0);
     }
 }
 
@@ -50,7 +50,7 @@ fn insert<L: Ledger>(
     ensures { OnOk result (words_in tree.new.rows ≡ words_in tree.old.rows ++ word ∷ []) }
 {
     assert!(rt; tree.len() < MAX_WORDS);
-    assert_new(rt, tree, word);
+    assert_new(rt, tree, word, steps);
     let plan = tree.plan_insert(word)?;
     tree.commit_insert(plan, steps);
     Ok(())

@@ -1,27 +1,40 @@
 -- The two tables joined row by row.
-use Rattle.std.proofs.Common.{◌≡◌, ◌∙◌, ℕ, zero, suc, ◌<◌, List, [], ◌∷◌, ◌++◌, length, get_or, refl, sym, ap, arith}
+use Rattle.std.proofs.Common.{◌≡◌, ℕ, zero, suc, List, [], ◌∷◌, ◌++◌, length, Some, slice_get, refl, ap, arith}
 use Rattle.std.proofs.Math.ListN.{set}
-use Rattle.std.specs.declared.vec.Vec.{Vec}
-use Rattle.std.specs.Vec.{vec_len}
 use Rattle.vp_tree.specs.declared.node.Node.{Node}
 use Rattle.vp_tree.specs.declared.node.Counts.{Counts}
 use Rattle.vp_tree.specs.Nodes.{node_at}
-use Rattle.vp_tree.specs.Stored.{seen, joined}
-
-pub same_lengths : {Z : Type 0} (ns : Vec Node Z) (cs : Vec Counts Z) → vec_len cs ≡ vec_len ns → length cs.items ≡ length ns.items
-same_lengths ns cs e = sym cs.ok.0 ∙ e ∙ ns.ok.0
+use Rattle.vp_tree.specs.Stored.{joined, searched, seen}
 
 pub length-joined : (ns : List Node) (cs : List Counts) → length cs ≡ length ns → length (joined ns cs) ≡ length ns
 length-joined [] cs e = refl
 length-joined (n ∷ ns) [] e = absurd (omega (arith, e))
 length-joined (n ∷ ns) (c ∷ cs) e = ap suc (length-joined ns cs (omega (arith, e)))
 
-pub node_at-joined : (ns : List Node) (cs : List Counts) (k : ℕ) (n : Node) (c : Counts) → length cs ≡ length ns → k < length ns
-    → node_at (joined ns cs) k ≡ seen (get_or ns k n) (get_or cs k c)
-node_at-joined [] cs k n c e h = absurd (omega (arith, h))
-node_at-joined (m ∷ ns) [] k n c e h = absurd (omega (arith, e))
-node_at-joined (m ∷ ns) (d ∷ cs) zero n c e h = refl
-node_at-joined (m ∷ ns) (d ∷ cs) (suc k) n c e h = node_at-joined ns cs k n c (omega (arith, e)) (omega (arith, h))
+pub node_at-joined : (ns : List Node) (cs : List Counts) (k : ℕ) (n : Node) (c : Counts) → slice_get ns k ≡ Some n → slice_get cs k ≡ Some c → node_at (joined ns cs) k ≡ seen n c
+node_at-joined [] cs k n c node counts = absurd (cc)
+node_at-joined (m ∷ ns) [] k n c node counts = absurd (cc)
+node_at-joined (m ∷ ns) (d ∷ cs) zero n c node counts = let same : m ≡ n = cc in let also : d ≡ c = cc in λ i. seen (same i) (also i)
+node_at-joined (m ∷ ns) (d ∷ cs) (suc k) n c node counts = node_at-joined ns cs k n c node counts
+
+-- the counts of one node are written over
+pub joined-counts : (ns : List Node) (cs : List Counts) (k : ℕ) (n : Node) (c : Counts) → slice_get ns k ≡ Some n → joined ns (set cs k c) ≡ set (joined ns cs) k (seen n c)
+joined-counts [] cs k n c node = absurd (cc)
+joined-counts (m ∷ ns) [] k n c node = refl
+joined-counts (m ∷ ns) (d ∷ cs) zero n c node = let same : m ≡ n = cc in ap (λ v. seen v c ∷ joined ns cs) same
+joined-counts (m ∷ ns) (d ∷ cs) (suc k) n c node = ap (λ xs. seen m d ∷ xs) (joined-counts ns cs k n c node)
+
+pub set-twice : {X : Type 0} (xs : List X) (k : ℕ) (x y : X) → set (set xs k x) k y ≡ set xs k y
+set-twice [] k x y = refl
+set-twice (z ∷ xs) zero x y = refl
+set-twice (z ∷ xs) (suc k) x y = ap (λ rest. z ∷ rest) (set-twice xs k x y)
+
+-- a node that is there has what a search reads of it
+pub node_there : (ns : List Node) (cs : List Counts) (k : ℕ) (n : Node) → length cs ≡ length ns → slice_get ns k ≡ Some n → searched (node_at (joined ns cs) k) ≡ n
+node_there [] cs k n e node = absurd (cc)
+node_there (m ∷ ns) [] k n e node = absurd (omega arith)
+node_there (m ∷ ns) (d ∷ cs) zero n e node = cc
+node_there (m ∷ ns) (d ∷ cs) (suc k) n e node = node_there ns cs k n (omega (arith, e)) node
 
 pub joined-push : (ns : List Node) (cs : List Counts) (n : Node) (c : Counts) → length cs ≡ length ns
     → joined (ns ++ n ∷ []) (cs ++ c ∷ []) ≡ joined ns cs ++ seen n c ∷ []

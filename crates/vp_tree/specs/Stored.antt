@@ -15,6 +15,10 @@ seen n c = record {
   built = c.built;
 }
 
+-- the node without its counts
+abbrev pub uncounted : NodeView → NodeView
+uncounted v = record v { below = 0; built = 0 }
+
 -- what a search reads of a node
 abbrev pub searched : NodeView → Node
 searched v = record { word = v.word; inner = v.inner; outer = v.outer; radius = v.radius }

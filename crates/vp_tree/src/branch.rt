@@ -74,6 +74,6 @@ pub fn replace_nodes(table: &mut NodeTable, plan: &BuildPlan)
     ensures spare { table.new.spare ≡ table.old.spare }
 {
     for (number, node) in &plan.nodes {
-        table.set(number.0 as usize, *node);
+        table.set(*number, *node);
     }
 }

@@ -69,9 +69,8 @@ pub fn grow_way<L: Ledger>(
 {
     let mut next = if number.0 == 0 { None } else { Some(HashNo(0)) };
     while let Some(at) = next {
-        steps.tick();
-        let node = table.node(at.0 as usize);
+        let node = table.take(at, steps);
         next = next_part(node, word);
-        table.set(at.0 as usize, grow(node, number, word));
+        table.set(at, grow(node, number, word));
     }
 }

@@ -1,11 +1,12 @@
 ghost use Rattle.std.specs.Prelude.{◌≡◌, ◌+◌, ◌<◌, ◌≤◌, [], ◌∷◌, ◌++◌, length, OnOk, slice_set};
 ghost use Rattle.vp_tree.specs.Nodes.{leaf, node_at};
-ghost use Rattle.vp_tree.specs.Stored.{IsStorable, searched};
+ghost use Rattle.vp_tree.specs.Stored.{IsStorable, searched, seen, uncounted};
 
 use crate::link::Link;
 use crate::node::{Counts, Node, NodeView};
 use crate::radius::Radius;
 use media_types::{Hash64, HashNo, NoMemory, Steps};
+use spare_tables::Rows;
 use std::alloc::Global;
 use std::marker::Model;
 use std::sync::ledger::Ledger;
@@ -13,12 +14,12 @@ use std::sync::ledger::Ledger;
 /// The nodes of a tree by number. What a search reads lies in a table of its own.
 #[derive(Drop)]
 pub struct NodeTable {
-    nodes: Vec<Node>,
-    counts: Vec<Counts>,
+    nodes: Rows<Node>,
+    counts: Rows<Counts>,
 }
 
 impl Model for NodeTable {
-    ghost use Rattle.std.specs.Prelude.{◌≡◌, ◌-◌, min, vec_len, vec_capacity};
+    ghost use Rattle.std.specs.Prelude.{◌≡◌, min, length};
     ghost use Rattle.vp_tree.specs.declared.node.NodeView.{NodeView};
     ghost use Rattle.spare_tables.specs.Table.{Table};
 
@@ -27,11 +28,11 @@ impl Model for NodeTable {
     ghost use Rattle.vp_tree.specs.Stored.{joined};
 
     ghost view = { λ table. record {
-      rows = joined table.nodes.items table.counts.items;
-      spare = min (vec_capacity table.nodes - vec_len table.nodes) (vec_capacity table.counts - vec_len table.counts);
+      rows = joined table.nodes.rows table.counts.rows;
+      spare = min table.nodes.spare table.counts.spare;
     } };
 
-    ghost invariant = { λ table. vec_len table.counts ≡ vec_len table.nodes };
+    ghost invariant = { λ table. length table.counts.rows ≡ length table.nodes.rows };
 }
 
 impl NodeTable {
@@ -39,33 +40,42 @@ impl NodeTable {
         ensures { result.rows ≡ [] }
     {
         NodeTable {
-            nodes: Vec::new(alloc),
-            counts: Vec::new(alloc),
+            nodes: Rows::new(alloc),
+            counts: Rows::new(alloc),
         }
     }
 
     pub fn len(&self) -> usize
         ensures { result ≡ length self.now.rows }
     {
-        self.nodes.len()
+        self.nodes.len() as usize
     }
 
-    /// All of a node.
-    pub fn node(&self, at: usize) -> NodeView
-        requires { at < length self.now.rows }
-        ensures node { result ≡ node_at self.now.rows at }
-        ensures storable { IsStorable result }
+    /// All of a node. It counts as two reads, one of each table.
+    pub fn node<L: Ledger>(&self, at: HashNo, steps: &mut Steps<L>) -> NodeView
+        requires { at.0 < length self.now.rows }
+        ensures node { result ≡ node_at self.now.rows at.0 }
+        ensures steps { steps.new ≡ steps.old + 2 }
     {
-        let node = &self.nodes[at];
-        let counts = self.counts[at];
-        NodeView {
-            word: node.word,
-            radius: node.radius.bits(),
-            inner: node.inner.child(),
-            outer: node.outer.child(),
-            below: counts.below,
-            built: counts.built,
-        }
+        let at = u64::from(at.0);
+        let node = self.nodes.get(at, steps);
+        let counts = *self.counts.get(at, steps);
+        view_of(node, counts)
+    }
+
+    /// All of a node that is to be written anew. Until then the table holds it without its counts. It counts
+    /// as one read.
+    pub fn take<L: Ledger>(&mut self, at: HashNo, steps: &mut Steps<L>) -> NodeView
+        requires { at.0 < length self.old.rows }
+        ensures node { result ≡ node_at self.old.rows at.0 }
+        ensures storable { IsStorable result }
+        ensures rows { self.new.rows ≡ slice_set self.old.rows at.0 (uncounted result) }
+        ensures spare { self.new.spare ≡ self.old.spare }
+        ensures steps { steps.new ≡ steps.old + 1 }
+    {
+        let at = u64::from(at.0);
+        let counts = self.counts.exchange(at, NO_COUNTS);
+        view_of(self.nodes.get(at, steps), counts)
     }
 
     /// What a search reads of a node. It counts as one read.
@@ -74,8 +84,7 @@ impl NodeTable {
         ensures node { result.now ≡ searched (node_at self.now.rows at.0) }
         ensures steps { steps.new ≡ steps.old + 1 }
     {
-        steps.tick();
-        &self.nodes[at.0 as usize]
+        self.nodes.get(u64::from(at.0), steps)
     }
 
     /// Makes room for so many more nodes.
@@ -85,8 +94,7 @@ impl NodeTable {
         ensures spare { self.old.spare ≤ self.new.spare }
     {
         self.nodes.reserve(n)?;
-        self.counts.reserve(n)?;
-        Ok(())
+        self.counts.reserve(n)
     }
 
     /// Puts a node without children last, in the room that was made.
@@ -95,30 +103,50 @@ impl NodeTable {
         ensures rows { self.new.rows ≡ self.old.rows ++ leaf word ∷ [] }
         ensures spare { self.old.spare ≤ self.new.spare + 1 }
     {
-        self.nodes.push_reserved(Node {
+        self.nodes.push(Node {
             word,
             inner: Link::new(None),
             outer: Link::new(None),
             radius: Radius::new(None),
         });
-        self.counts.push_reserved(Counts { below: 0, built: 0 });
+        self.counts.push(NO_COUNTS);
     }
 
-    pub fn set(&mut self, at: usize, node: NodeView)
-        requires at { at < length self.old.rows }
+    pub fn set(&mut self, at: HashNo, node: NodeView)
+        requires at { at.0 < length self.old.rows }
         requires storable { IsStorable node }
-        ensures rows { self.new.rows ≡ slice_set self.old.rows at node }
+        ensures rows { self.new.rows ≡ slice_set self.old.rows at.0 node }
         ensures spare { self.new.spare ≡ self.old.spare }
     {
-        self.nodes[at] = Node {
+        let at = u64::from(at.0);
+        let searched = Node {
             word: node.word,
             inner: Link::new(node.inner),
             outer: Link::new(node.outer),
             radius: Radius::new(node.radius),
         };
-        self.counts[at] = Counts {
+        self.nodes.set(at, searched);
+        let counts = Counts {
             below: node.below,
             built: node.built,
         };
+        self.counts.set(at, counts);
+    }
+}
+
+// The counts of a node that has none yet.
+const NO_COUNTS: Counts = Counts { below: 0, built: 0 };
+
+fn view_of(node: &Node, counts: Counts) -> NodeView
+    ensures view { result ≡ seen node.now counts }
+    ensures storable { IsStorable result }
+{
+    NodeView {
+        word: node.word,
+        radius: node.radius.bits(),
+        inner: node.inner.child(),
+        outer: node.outer.child(),
+        below: counts.below,
+        built: counts.built,
     }
 }

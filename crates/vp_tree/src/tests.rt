@@ -12,21 +12,26 @@ use std::test::Fail;
 use std::thread::Threads;
 
 // Looks at each node, since a tree takes only words that aren't there.
-fn assert_new(rt: &impl Abort, tree: &Tree, word: Hash64)
+fn assert_new<L: Ledger>(rt: &impl Abort, tree: &Tree, word: Hash64, steps: &mut Steps<L>)
     ensures { All (λ node. node.word ≢ word) tree.now.rows }
 {
     for at in 0..tree.len() {
-        assert!(rt; tree.node(HashNo(at)).word.0 != word.0);
+        assert!(rt; tree.node(HashNo(at), steps).word.0 != word.0);
     }
 }
 
-fn plan_word(rt: &impl Abort, tree: &mut Tree, word: Hash64) -> Result<InsertPlan, NoMemory>
+fn plan_word<L: Ledger>(
+    rt: &impl Abort,
+    tree: &mut Tree,
+    word: Hash64,
+    steps: &mut Steps<L>,
+) -> Result<InsertPlan, NoMemory>
     ensures plan { IfOk result (λ plan. plan.word ≡ word) }
     ensures ready { OnOk result (CanTake tree.new word) }
     ensures room { OnOk result (MAX_HASHES ≤ tree.new.spare) }
 {
     assert!(rt; tree.len() < MAX_WORDS);
-    assert_new(rt, tree, word);
+    assert_new(rt, tree, word, steps);
     tree.plan_insert(word)
 }
 
@@ -50,7 +55,7 @@ fn insert<L: Ledger>(
     word: Hash64,
     steps: &mut Steps<L>,
 ) -> Result<HashNo, NoMemory> {
-    let plan = plan_word(rt, tree, word)?;
+    let plan = plan_word(rt, tree, word, steps)?;
     Ok(place(rt, tree, plan, steps))
 }
 
@@ -77,10 +82,10 @@ fn insert_four<L: Ledger>(
     tree: &mut Tree,
     steps: &mut Steps<L>,
 ) -> Result<(), NoMemory> {
-    let first = plan_word(rt, tree, Hash64(0))?;
-    let second = plan_word(rt, tree, Hash64(0xff))?;
-    let third = plan_word(rt, tree, Hash64(0x1ff))?;
-    let fourth = plan_word(rt, tree, Hash64(u64::MAX))?;
+    let first = plan_word(rt, tree, Hash64(0), steps)?;
+    let second = plan_word(rt, tree, Hash64(0xff), steps)?;
+    let third = plan_word(rt, tree, Hash64(0x1ff), steps)?;
+    let fourth = plan_word(rt, tree, Hash64(u64::MAX), steps)?;
     place_later(rt, tree, first, 0, steps);
     place_later(rt, tree, second, 1, steps);
     place_later(rt, tree, third, 2, steps);
@@ -111,7 +116,7 @@ fn assert_as_scan<L: Ledger>(
     let hits = tree.search(query, within, steps)?;
     let mut next = 0;
     for at in 0..tree.len() {
-        let away = distance(query, tree.node(HashNo(at)).word);
+        let away = distance(query, tree.node(HashNo(at), steps).word);
         if away <= within {
             assert!(rt; next < hits.len(), "{at} is missing");
             assert_eq!(rt; *hits.get(next), (HashNo(at), away));
@@ -331,10 +336,15 @@ fn build_all<L: Ledger>(
     Ok(())
 }
 
-fn assert_nodes(rt: &impl Abort, tree: &Tree, nodes: &[(u32, NodeView)]) {
+fn assert_nodes<L: Ledger>(
+    rt: &impl Abort,
+    tree: &Tree,
+    nodes: &[(u32, NodeView)],
+    steps: &mut Steps<L>,
+) {
     for (at, node) in nodes {
         assert!(rt; *at < tree.len());
-        assert_eq!(rt; tree.node(HashNo(*at)), *node, "at {at}");
+        assert_eq!(rt; tree.node(HashNo(*at), steps), *node, "at {at}");
     }
 }
 
@@ -348,7 +358,7 @@ fn assert_case<L: Ledger>(
     insert_all(rt, &mut tree, case.words, steps)?;
     build_all(rt, &mut tree, case.builds, steps)?;
     assert_eq!(rt; tree.len() as usize, case.words.len());
-    assert_nodes(rt, &tree, case.nodes);
+    assert_nodes(rt, &tree, case.nodes, steps);
     assert_hits(rt, &tree, case.searches, steps)
 }
 

@@ -60,12 +60,13 @@ impl Tree {
         self.table.len() as u32
     }
 
-    /// All that is kept of a node.
-    pub fn node(&self, at: HashNo) -> NodeView
+    /// All that is kept of a node. It counts as two reads.
+    pub fn node<L: Ledger>(&self, at: HashNo, steps: &mut Steps<L>) -> NodeView
         requires { at.0 < length self.now.rows }
-        ensures { result ≡ node_at self.now.rows at.0 }
+        ensures node { result ≡ node_at self.now.rows at.0 }
+        ensures steps { steps.new ≡ steps.old + 2 }
     {
-        self.table.node(at.0 as usize)
+        self.table.node(at, steps)
     }
 
     /// Makes room for a word, and for as many as a file has, so that the new words of one file are all
