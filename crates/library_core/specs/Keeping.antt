@@ -1,23 +1,32 @@
 -- What contracts see of a library, and what ties its records to its keeper.
-use Rattle.std.specs.Prelude.{◌≡◌, ◌≢◌, ℕ, Bool, true, if◌then◌else◌, List, [], Option, Some, Ok}
+use Rattle.std.specs.Prelude.{◌≡◌, ◌≢◌, ℕ, Bool, true, List, [], Option, Some, None, Ok, Err}
+use Rattle.media_types.specs.declared.hash.Hash64.{Hash64}
 use Rattle.media_base.specs.declared.change.Change.{Change}
-use Rattle.media_base.specs.declared.reply.Reply.{Reply}
 use Rattle.media_base.specs.Keeping.{Readings, HasGivenAll}
+use Rattle.media_base.specs.Replying.{Reply}
 use Rattle.vp_tree.specs.declared.node.NodeView.{NodeView}
 use Rattle.vp_tree.specs.Placing.{ArePlaced}
-use Rattle.library_machine.specs.Changes.{is_refused, opened}
+use Rattle.library_machine.specs.Opening.{opened}
 use Rattle.library_machine.specs.Records.{Records, Fits}
-use Rattle.library_tables.specs.Tables.{HasWords, words_brought}
+use Rattle.library_machine.specs.Step.{State}
+use Rattle.library_tables.specs.Preparing.{words_brought}
+use Rattle.library_tables.specs.Tables.{HasWords}
 
 pub record LibraryView (K : Type 0) : Type 0 where
-  pub records : Records
+  pub state : State
   -- the nodes of the metric tree over the hashes
   pub tree : List NodeView
   pub keeper : K
 
+-- the words that come with the change of a step, where it isn't refused
+abbrev pub words_gained : Records → Option Change → Reply → List Hash64
+words_gained r None reply = []
+words_gained r (Some change) (Ok answer) = words_brought r change
+words_gained r (Some change) (Err why) = []
+
 -- An import that is accepted places its new words in the tree, in their order. All else leaves the tree.
 abbrev pub GrowsBy : Records → Option Change → Reply → List NodeView → List NodeView → Type 0
-GrowsBy r change reply old new = ArePlaced old (if is_refused reply then [] else words_brought r change) new
+GrowsBy r change reply old new = ArePlaced old (words_gained r change reply) new
 
 -- The records are such as a session has, and the tree has their words; the keeper has started and given all that it told, and where it
 -- tells what it keeps, that opens the records.

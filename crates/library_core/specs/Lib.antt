@@ -1,7 +1,9 @@
+pub mod Done
+pub mod Faults
 pub mod Keeping
-pub mod Opening
+pub use Rattle.library_machine.specs.Desks
+pub use Rattle.library_machine.specs.Opening
 pub use Rattle.library_machine.specs.Records
-pub use Rattle.library_machine.specs.Changes
 pub use Rattle.library_machine.specs.Step
 pub use Rattle.file_records.specs.Words
 pub use Rattle.vp_tree.specs.Nodes

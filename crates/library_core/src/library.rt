@@ -1,22 +1,21 @@
-ghost use Rattle.std.specs.Prelude.{◌≡◌, ◌≢◌, ◌⊎◌, ◌+◌, ◌<◌, ◌≤◌, true, false, Some, None, Ok};
-ghost use Rattle.media_types.specs.Cause.{Rose};
+ghost use Rattle.std.specs.Prelude.{◌≡◌, ◌≢◌, true, Some, Ok, Err};
 ghost use Rattle.media_base.specs.Keeping.{Readings};
-ghost use Rattle.media_base.specs.declared.change.Change.{Change as ChangeValue};
 ghost use Rattle.media_base.specs.declared.refusal.Refusal.{Refusal};
-ghost use Rattle.library_machine.specs.Changes.{is_refused, kept_with, opened};
+ghost use Rattle.library_machine.specs.Opening.{opened};
 ghost use Rattle.library_machine.specs.Records.{Fits};
 ghost use Rattle.library_machine.specs.Step as machine;
-ghost use Rattle.library_tables.specs.Counting.{IsWithin, most_reads};
-ghost use Rattle.library_core.specs.Keeping.{GrowsBy};
-ghost use Rattle.library_core.specs.Opening.{put_refusal};
+ghost use Rattle.library_tables.specs.Counting.{IsWithin, change_reads, most_reads};
 ghost use Rattle.library_tables.specs.Tables.{HasWords};
+ghost use Rattle.library_core.specs.Done.{IsDone};
+ghost use Rattle.library_core.specs.Keeping.{GrowsBy};
+ghost use Rattle.library_core.specs.Faults.{put_refusal};
 
-use library_tables::{Prepared, Tables};
-use media_base::{Caller, Command, Keeper, PutFault, Refusal, Reply, Steps};
+use library_tables::{Deed, Prepared, Tables};
+use media_base::{Caller, Change, Command, Keeper, PutFault, Refusal, Reply, Steps};
 use std::marker::Model;
 use std::sync::ledger::Ledger;
 
-/// A library and the keeper of its changes. Contracts see its records and the keeper.
+/// A library and the keeper of its changes. Contracts see its state and the keeper.
 #[derive(Drop)]
 pub struct Library<K: Keeper> {
     pub(crate) tables: Tables,
@@ -24,13 +23,14 @@ pub struct Library<K: Keeper> {
 }
 
 impl<K: Keeper> Model for Library<K> {
-    ghost use Rattle.library_core.specs.Keeping.{LibraryView, IsInStep};
+    ghost use Rattle.library_machine.specs.Desks.{no_desks};
     ghost use Rattle.library_tables.specs.Tables.{records_of};
+    ghost use Rattle.library_core.specs.Keeping.{LibraryView, IsInStep};
 
     ghost Value = { LibraryView K };
 
     ghost view = { λ l. record {
-      records = records_of l.tables;
+      state = record { kept = records_of l.tables; desks = no_desks };
       tree = l.tables.tree.rows;
       keeper = l.keeper;
     } };
@@ -51,87 +51,101 @@ impl<K: Keeper> Library<K> {
         command: &Command,
         steps: &mut Steps<L>,
     ) -> Reply
-        ensures answered { machine.Answered self.old.records caller command.now result self.new.records }
-        ensures fits { Fits self.new.records }
+        // The step is answered, and the keeper has its change.
+        ensures done { IsDone (record { kept = K.kept; alien = K.alien; faults = K.faults; used = K.used; units = K.units; limit = K.limit })
+            self.old.state self.old.keeper (machine.step self.old.state caller command.now)
+            result self.new.state self.new.keeper }
+        ensures refused { (why : Refusal) → result ≡ Err why → self.new.state ≡ self.old.state }
 
-        // After a refusal nothing has changed, and otherwise the keeper has the change of the step.
-        ensures refused { (why : Refusal) → result ≡ Reply.Refused why → self.new.records ≡ self.old.records }
-        ensures kept { K.kept self.new.keeper
-            ≡ kept_with (machine.step self.old.records caller command.now).change result (K.kept self.old.keeper) }
+        ensures fits { Fits self.new.state.kept }
         ensures opens { (readings : Readings) → K.kept self.new.keeper ≡ Some readings
-            → opened readings ≡ Ok self.new.records }
+            → opened readings ≡ Ok self.new.state.kept }
 
         // An import that is accepted places its new words in the tree. All else leaves it.
-        ensures tree { let r = self.old.records in
-            GrowsBy r (machine.step r caller command.now).change result self.old.tree self.new.tree }
-        ensures words { HasWords self.new.tree self.new.records }
+        ensures tree { GrowsBy self.old.state.kept
+            (machine.change_of (machine.step self.old.state caller command.now)) result self.old.tree self.new.tree }
+        ensures words { HasWords self.new.tree self.new.state.kept }
 
-        // Searches and pages of pairs read no more than this.
-        ensures reads { IsWithin (most_reads self.old.records self.old.tree command.now) steps.old steps.new }
-
-        // `journal_full` comes exactly where the records would change and there is no room for the change.
-        ensures full { result ≡ Reply.Refused Refusal.JournalFull → (change : ChangeValue)
-            → (machine.step self.old.records caller command.now).change ≡ Some change
-            → K.limit self.old.keeper < K.used self.old.keeper + K.units self.old.keeper change }
-        ensures no_room { (change : ChangeValue)
-            → (machine.step self.old.records caller command.now).change ≡ Some change
-            → K.limit self.old.keeper < K.used self.old.keeper + K.units self.old.keeper change
-            → (result ≡ Reply.Refused Refusal.NoMemory) ⊎ (result ≡ Reply.Refused Refusal.JournalFull) }
-
-        ensures same_limit { K.limit self.new.keeper ≡ K.limit self.old.keeper }
-        ensures same_units { K.units self.new.keeper ≡ K.units self.old.keeper }
-        ensures used { (change : ChangeValue)
-            → (machine.step self.old.records caller command.now).change ≡ Some change → is_refused result ≡ false
-            → K.used self.new.keeper ≡ K.used self.old.keeper + K.units self.old.keeper change }
-        ensures told_used { (machine.step self.old.records caller command.now).change ≡ None
-            → K.used self.new.keeper ≡ K.used self.old.keeper }
-        ensures same_used { (why : Refusal) → result ≡ Reply.Refused why → K.used self.new.keeper ≡ K.used self.old.keeper }
-
-        ensures later { K.faults self.old.keeper ≤ K.faults self.new.keeper }
-        ensures not_kept { result ≡ Reply.Refused Refusal.NotKept
-            → Rose (K.faults self.old.keeper) (K.faults self.new.keeper) }
-        ensures own { K.alien self.new.keeper ≡ K.alien self.old.keeper }
+        // Searches, pages of pairs and deletions read no more than this.
+        ensures reads { IsWithin (most_reads self.old.state.kept self.old.tree command.now) steps.old steps.new }
     {
         library_machine::refusals_change_nothing();
-        library_machine::changes_are_kept();
-        library_machine::steps_never_lack();
-        library_machine::records_stay_fit();
         let Caller::Console = caller;
-        match self.tables.plan(command, steps) {
-            Ok(Prepared::Told(reply)) => reply,
-            Ok(
-                Prepared::Change {
-                    plan,
-                    change,
-                    reply,
-                },
-            ) => match self.keeper.put(&change) {
+        let reply = self.answer_of(command, steps);
+        self.in_step();
+        reply
+    }
+
+    // The same for a caller who may ask it.
+    fn answer_of<L: Ledger>(&mut self, command: &Command, steps: &mut Steps<L>) -> Reply
+        ensures done { IsDone (record { kept = K.kept; alien = K.alien; faults = K.faults; used = K.used; units = K.units; limit = K.limit })
+            self.old.state self.old.keeper (machine.step_of self.old.state command.now)
+            result self.new.state self.new.keeper }
+        ensures tree { GrowsBy self.old.state.kept
+            (machine.change_of (machine.step_of self.old.state command.now)) result self.old.tree self.new.tree }
+        ensures reads { IsWithin (most_reads self.old.state.kept self.old.tree command.now) steps.old steps.new }
+    {
+        match command {
+            Command::Ask(query) => Ok(self.tables.ask(query, steps)??),
+            Command::Do(change) => self.make(change, steps),
+            Command::Run(job) => match self.tables.work_out(job, steps)? {
+                Deed::Tells(answer) => Ok(answer),
+                Deed::Makes(change) => self.make(&change, steps),
+            },
+            Command::Tend(upkeep) => Ok(self.tables.tend(*upkeep, steps)?),
+        }
+    }
+
+    // Makes a change, where it is lawful and would change anything, once it is kept.
+    fn make<L: Ledger>(&mut self, change: &Change, steps: &mut Steps<L>) -> Reply
+        ensures done { IsDone (record { kept = K.kept; alien = K.alien; faults = K.faults; used = K.used; units = K.units; limit = K.limit })
+            self.old.state self.old.keeper (machine.made self.old.state.kept self.old.state.desks change.now)
+            result self.new.state self.new.keeper }
+        ensures tree { GrowsBy self.old.state.kept
+            (machine.change_of (machine.made self.old.state.kept self.old.state.desks change.now))
+            result self.old.tree self.new.tree }
+        ensures reads { IsWithin (change_reads self.old.state.kept self.old.tree change.now) steps.old steps.new }
+    {
+        match self.tables.plan(change, steps)? {
+            Prepared::Refused(why) => Err(Refusal::Unmet(why)),
+            Prepared::Idle(answer) => Ok(answer),
+            Prepared::Ready(plan, answer) => match self.keeper.put(change) {
                 Ok(()) => {
                     self.tables.commit(plan, steps);
-                    reply
+                    Ok(answer)
                 }
                 Err(fault) => {
                     self.tables.withdraw(plan);
-                    Reply::Refused(refusal_of(fault))
+                    drop(answer);
+                    Err(refusal_of(fault))
                 }
             },
-            Err(_want) => Reply::Refused(Refusal::NoMemory),
         }
+    }
+
+    // The records fit, the tree has their words, and what is kept opens them. The call does nothing.
+    fn in_step(&self)
+        ensures fits { Fits self.now.state.kept }
+        ensures opens { (readings : Readings) → K.kept self.now.keeper ≡ Some readings
+            → opened readings ≡ Ok self.now.state.kept }
+        ensures words { HasWords self.now.tree self.now.state.kept }
+    {
+        let _tables = &self.tables;
     }
 
     /// Hands the keeper back.
     pub fn release(self) -> K
-        ensures fits { Fits self.records }
+        ensures fits { Fits self.state.kept }
         ensures keeper { result ≡ self.keeper }
         ensures own { K.alien result ≢ Some true }
         ensures opens { (readings : Readings) → K.kept result ≡ Some readings
-            → opened readings ≡ Ok self.records }
+            → opened readings ≡ Ok self.state.kept }
     {
         self.keeper
     }
 }
 
-/// Why a command is refused whose change wasn't kept.
+// Why a command is refused whose change wasn't kept.
 fn refusal_of(fault: PutFault) -> Refusal
     ensures { result ≡ put_refusal fault }
 {

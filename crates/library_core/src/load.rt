@@ -2,7 +2,8 @@ ghost use Rattle.std.specs.Prelude.{◌≡◌, ◌≢◌, ◌≤◌, ℕ, true, 
 ghost use Rattle.media_types.specs.Cause.{HasCause, Rose};
 ghost use Rattle.media_base.specs.Keeping.{Readings, HasMore, next_place};
 ghost use Rattle.media_base.specs.declared.change.Change.{Change as ChangeValue};
-ghost use Rattle.library_machine.specs.Changes.{after_reading, command_of, opened};
+ghost use Rattle.library_machine.specs.Desks.{no_desks};
+ghost use Rattle.library_machine.specs.Opening.{after_reading, opened};
 ghost use Rattle.library_machine.specs.Records.{Fits, no_records};
 ghost use Rattle.vp_tree.specs.Building.{IsBuiltWhole};
 ghost use Rattle.library_tables.specs.Tables.{HasWords, records_of};
@@ -10,56 +11,30 @@ ghost use Rattle.library_tables.specs.Tables.{HasWords, records_of};
 use crate::library::Library;
 use crate::load_fail::LoadFail;
 use library_tables::{Prepared, Tables};
-use media_base::{Change, Command, Keeper, NextFault, Steps};
+use media_base::{Keeper, NextFault, Steps};
 use std::alloc::Global;
 use std::sync::ledger::Ledger;
 
-// Why a change wasn't taken.
-#[derive(Clone, Copy, Debug, PartialEq, Eq)]
-enum TakeFault {
-    Failed,
-    NoMemory,
-    // It has no reading, or isn't lawful.
-    Bad,
-}
-
-// The console's command of the same meaning.
-fn command_from(change: Change) -> Command
-    ensures { result ≡ command_of change }
-{
-    match change {
-        Change::File(file) => Command::Import(file),
-        Change::Live { file, live } => {
-            if live {
-                Command::Undelete(file)
-            } else {
-                Command::Delete(file)
-            }
-        }
-        Change::Decision(decision) => Command::Decide(decision),
-        Change::Undo(number) => Command::Undo(number),
-        Change::Distance(distance) => Command::SearchDistance(distance),
-        Change::Searched(searching) => Command::SearchFiles(searching),
-    }
-}
-
-// Does what the keeper's next change says.
+// Does what the keeper's next change says, which is the one of this number.
 fn take_next<K: Keeper, L: Ledger>(
     tables: &mut Tables,
     keeper: &mut K,
+    number: u64,
     steps: &mut Steps<L>,
-) -> Result<(), TakeFault>
+) -> Result<(), LoadFail>
     requires ready { K.ready keeper.old }
     requires more { HasMore (K.place keeper.old) }
-    ensures cause { HasCause (K.faults keeper.old) (K.faults keeper.new) TakeFault.Failed result }
+    ensures cause { HasCause (K.faults keeper.old) (K.faults keeper.new) LoadFail.StoreFault result }
     ensures taken { (readings : Readings) (given told : ℕ) → K.gives keeper.old ≡ Some readings
         → K.place keeper.old ≡ Some (given, told)
         → OnOk result ((reading : Option ChangeValue) → slice_get readings given ≡ Some reading
         → after_reading (records_of tables.old) reading ≡ Some (records_of tables.new)) }
-    ensures bad { (readings : Readings) (given told : ℕ) → K.gives keeper.old ≡ Some readings
-        → K.place keeper.old ≡ Some (given, told) → result ≡ Err TakeFault.Bad
+    ensures bad { (readings : Readings) (given told n : ℕ) → K.gives keeper.old ≡ Some readings
+        → K.place keeper.old ≡ Some (given, told) → result ≡ Err (LoadFail.BadStore n)
         → (reading : Option ChangeValue) → slice_get readings given ≡ Some reading
         → after_reading (records_of tables.old) reading ≡ None }
+    ensures its_number { (n : ℕ) → result ≡ Err (LoadFail.BadStore n) → n ≡ number }
+    ensures not_alien { result ≢ Err LoadFail.AlienStore }
     ensures ready { K.ready keeper.new }
     ensures place { OnOk result (K.place keeper.new ≡ option_map next_place (K.place keeper.old)) }
     ensures same_alien { K.alien keeper.new ≡ K.alien keeper.old }
@@ -70,26 +45,18 @@ fn take_next<K: Keeper, L: Ledger>(
 {
     let change = match keeper.next() {
         Ok(change) => change,
-        Err(NextFault::Failed) => return Err(TakeFault::Failed),
-        Err(NextFault::NoMemory) => return Err(TakeFault::NoMemory),
-        Err(NextFault::Unreadable) => return Err(TakeFault::Bad),
+        Err(NextFault::Failed) => return Err(LoadFail::StoreFault),
+        Err(NextFault::NoMemory) => return Err(LoadFail::NoMemory),
+        Err(NextFault::Unreadable) => return Err(LoadFail::BadStore(number)),
     };
-    let command = command_from(change);
-    match tables.plan(&command, steps) {
-        Ok(
-            Prepared::Change {
-                plan,
-                change,
-                reply,
-            },
-        ) => {
-            drop(change);
-            drop(reply);
+    match tables.plan(&change, steps)? {
+        Prepared::Ready(plan, answer) => {
+            drop(answer);
             tables.commit(plan, steps);
             Ok(())
         }
-        Ok(Prepared::Told(_reply)) => Err(TakeFault::Bad),
-        Err(_want) => Err(TakeFault::NoMemory),
+        Prepared::Idle(_answer) => Err(LoadFail::BadStore(number)),
+        Prepared::Refused(_why) => Err(LoadFail::BadStore(number)),
     }
 }
 
@@ -123,17 +90,10 @@ fn take_all<K: Keeper, L: Ledger>(
     ensures same_units { K.units keeper.new ≡ K.units keeper.old }
 {
     for number in 0..count {
-        match take_next(tables, keeper, steps) {
-            Ok(()) => {}
-            Err(TakeFault::Failed) => return Err(LoadFail::StoreFault),
-            Err(TakeFault::NoMemory) => return Err(LoadFail::NoMemory),
-            Err(TakeFault::Bad) => return Err(LoadFail::BadStore(number)),
-        }
+        take_next(tables, keeper, number, steps)?;
     }
-    match tables.build_tree(steps) {
-        Ok(()) => Ok(()),
-        Err(_want) => Err(LoadFail::NoMemory),
-    }
+    tables.build_tree(steps)?;
+    Ok(())
 }
 
 impl<K: Keeper> Library<K> {
@@ -145,11 +105,12 @@ impl<K: Keeper> Library<K> {
     ) -> Result<Library<K>, (LoadFail, K)>
         // The records are those that the keeper's changes open. A store is bad exactly where they open none.
         ensures opened { (readings : Readings) → K.gives keeper ≡ Some readings
-            → IfOk result (λ library. opened readings ≡ Ok library.records) }
-        ensures fits { IfOk result (λ library. Fits library.records) }
+            → IfOk result (λ library. opened readings ≡ Ok library.state.kept) }
+        ensures fits { IfOk result (λ library. Fits library.state.kept) }
+        ensures no_desks { IfOk result (λ library. library.state.desks ≡ no_desks) }
 
         // The tree is built of all words.
-        ensures words { IfOk result (λ library. HasWords library.tree library.records) }
+        ensures words { IfOk result (λ library. HasWords library.tree library.state.kept) }
         ensures whole { IfOk result (λ library. IsBuiltWhole library.tree) }
         ensures bad { (readings : Readings) (n : ℕ) → K.gives keeper ≡ Some readings
             → IfErr result (λ fail. fail.0 ≡ LoadFail.BadStore n → opened readings ≡ Err n) }
@@ -192,9 +153,10 @@ impl<K: Keeper> Library<K> {
         steps: &mut Steps<L>,
     ) -> Result<Library<K>, (LoadFail, K)>
         ensures same { (readings : Readings) → K.kept self.keeper ≡ Some readings
-            → IfOk result (λ library. library.records ≡ self.records) }
-        ensures fits { IfOk result (λ library. Fits library.records) }
-        ensures words { IfOk result (λ library. HasWords library.tree library.records) }
+            → IfOk result (λ library. library.state.kept ≡ self.state.kept) }
+        ensures fits { IfOk result (λ library. Fits library.state.kept) }
+        ensures no_desks { IfOk result (λ library. library.state.desks ≡ no_desks) }
+        ensures words { IfOk result (λ library. HasWords library.tree library.state.kept) }
         ensures whole { IfOk result (λ library. IsBuiltWhole library.tree) }
         ensures never_bad { (readings : Readings) → K.kept self.keeper ≡ Some readings
             → IfErr result (λ fail. (n : ℕ) → fail.0 ≢ LoadFail.BadStore n) }
