@@ -13,7 +13,7 @@ use Rattle.media_tool.specs.Kept.{Keeps}
 use Rattle.media_tool.specs.Run.{State}
 use Rattle.library_core.specs.declared.load_fail.LoadFail.{LoadFail}
 use Rattle.library_core.specs.declared.load_fail.LoadFail.TheVariants as fails
-use Rattle.media_tool.specs.Session.{AnswersNothing, HasOpened, Played, Plays, PlaysFrom, load_status}
+use Rattle.media_tool.specs.Session.{AnswersNothing, HasOpened, HasRun, Played, Plays, PlaysFrom, load_status}
 use Rattle.media_tool.specs.declared.play.TheConstants.{MAX_INPUT}
 use Rattle.media_tool.proofs.Feeds.{fed_nothing, fed_more, ends_early, ends_stopped, stopped_after}
 use Rattle.media_tool.proofs.Kept.{keeps_nothing}
@@ -131,6 +131,26 @@ nothing_played statuses.NoMemory o taken unopened = nothing o taken
 nothing_played statuses.StoreFault o taken unopened = nothing o taken
 nothing_played (statuses.BadStore n) o taken unopened = nothing o taken
 nothing_played statuses.AlienStore o taken unopened = nothing o taken
+
+pub ran_of : (status : Status) → HasOpened status → HasRun status
+ran_of statuses.Done opened = tt
+ran_of statuses.ReadFault opened = tt
+ran_of statuses.WriteFault opened = tt
+ran_of statuses.InputTooLong opened = tt
+ran_of statuses.Usage opened = opened
+ran_of statuses.NoMemory opened = tt
+ran_of statuses.StoreFault opened = opened
+ran_of (statuses.BadStore n) opened = opened
+ran_of statuses.AlienStore opened = opened
+
+-- nothing was given or taken, for want of memory
+pub plays_nothing : (o : State) (left taken : Option (List ℕ)) → PlaysFrom o o statuses.NoMemory left left taken taken
+plays_nothing o left taken = record {
+  given = [];
+  gave = gave_none left;
+  limit = within_limit statuses.NoMemory [] (λ is. cc) (omega arith);
+  played = nothing o taken;
+}
 
 -- nothing was given, answered or taken
 pub plays_unopened : (status : Status) (alien : Option Bool) (gives kept_old kept_new : Option Readings) (faults_old faults_new : ℕ) (left taken : Option (List ℕ)) → (HasOpened status → ⊥) → kept_new ≡ kept_old → faults_old ≤ faults_new

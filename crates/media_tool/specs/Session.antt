@@ -68,7 +68,15 @@ pub record PlaysFrom (opening after : State) (status : Status) (left_old left_ne
   pub limit : (status ≡ statuses.InputTooLong) ↔ (MAX_INPUT < length given)
   pub played : Played status opening after given taken_old taken_new
 
--- The library opened: its session ends so, and no other.
+-- A session over an open library ends so, where it has no room for a line or a read too.
+abbrev pub HasRun : Status → Type 0
+HasRun statuses.Usage = ⊥
+HasRun statuses.StoreFault = ⊥
+HasRun (statuses.BadStore n) = ⊥
+HasRun statuses.AlienStore = ⊥
+HasRun status = Unit {0}
+
+-- The library opened and its lines were read, to one of these ends.
 abbrev pub HasOpened : Status → Type 0
 HasOpened statuses.Done = Unit {0}
 HasOpened statuses.ReadFault = Unit {0}
