@@ -20,7 +20,15 @@ pub record AnswersNothing {K : Type 0} (opening after : SessionState K) (given :
   pub same : after ≡ opening
   pub took : new ≡ old
 
--- The library opened: its session ends so, and no other.
+-- A session over an open library ends so, where it has no room for a line or a read too.
+abbrev pub HasRun : Status → Type 0
+HasRun statuses.Usage = ⊥
+HasRun statuses.StoreFault = ⊥
+HasRun (statuses.BadStore n) = ⊥
+HasRun statuses.AlienStore = ⊥
+HasRun status = Unit {0}
+
+-- The library opened and its lines were read, to one of these ends.
 abbrev pub HasOpened : Status → Type 0
 HasOpened statuses.Done = Unit {0}
 HasOpened statuses.ReadFault = Unit {0}
