@@ -1,4 +1,3 @@
-use Rattle.std.proofs.Common.{refl}
 use Rattle.std.proofs.lemmas.Result.{err_from_is_err_and}
 use Rattle.media_tool.specs.Run.{as_command, state_of, telling}
 use Rattle.media_tool.proofs.Runs.{answered_refusal}
