@@ -1,5 +1,5 @@
 -- How outcomes are answered and kept, by their kinds: once for all commands and keepers.
-use Rattle.std.proofs.Common.{◌≡◌, ◌≢◌, ◌⊎◌, ◌<◌, ◌≤◌, ◌+◌, inl, inr, ℕ, Bool, true, false, Option, Some, None, IsSome, option_map, Result, Ok, Err, arith, refl, ap, subst, sym, ◌∙◌}
+use Rattle.std.proofs.Common.{◌≡◌, ◌≢◌, ◌⊎◌, List, ◌≤◌, ◌+◌, inl, inr, Bool, true, false, Option, None, IsSome, option_map, Result, Ok, Err, arith, refl, ap, subst, sym, ◌∙◌}
 use Rattle.media_types.specs.Cause.{Rose}
 use Rattle.media_base.specs.declared.change.Change.{Change}
 use Rattle.media_base.specs.declared.command.Caller.{Caller}
@@ -11,15 +11,17 @@ use Rattle.media_base.specs.declared.refusal.Refusal.{Refusal}
 use Rattle.media_base.specs.declared.refusal.Refusal.TheVariants as refusals
 use Rattle.media_base.specs.declared.refusal.Unmet.{Unmet}
 use Rattle.media_base.specs.declared.reply.Answer.{Answer}
-use Rattle.media_base.specs.Keeping.{Readings, with_change}
+use Rattle.media_base.specs.Keeping.{with_change}
 use Rattle.media_base.specs.Replying.{Reply}
+use Rattle.vp_tree.specs.declared.node.NodeView.{NodeView}
 use Rattle.library_machine.specs.Changing.{does, effect, answer_to}
-use Rattle.library_machine.specs.Desks.{Desks}
+use Rattle.library_machine.specs.Desks.{no_desks}
 use Rattle.library_machine.specs.Opening.{kept_with}
 use Rattle.library_machine.specs.Records.{Records}
-use Rattle.library_machine.specs.Step.{State, Outcome, refused, told, changed, after, reply_of, change_of, by_change, made, admitted, step, step_of, Answered, by_step, no_memory, journal_full, not_kept}
+use Rattle.library_machine.specs.Step.{State, Outcome, refused, told, changed, change_of, by_change, made, by_answer, admitted, step, step_of, Answered, by_step, no_memory, journal_full, not_kept}
 use Rattle.library_core.specs.Done.{Telling, IsDone, HasNoRoom}
 use Rattle.library_core.specs.Faults.{put_refusal}
+use Rattle.library_core.specs.Keeping.{LibraryView}
 
 -- nothing is put where there is no change
 unput : {K : Type 0} (t : Telling K) (s new : State) (keeper : K) (o : Outcome) (reply : Reply) → Answered s o reply new →
@@ -39,35 +41,42 @@ unput t s new keeper o reply answered none room kept = record {
   own = refl;
 }
 
-pub refused_done : {K : Type 0} (t : Telling K) (s : State) (keeper : K) (why : Unmet) →
+refused_done : {K : Type 0} (t : Telling K) (s : State) (keeper : K) (why : Unmet) →
     IsDone t s keeper (refused why) (Err (refusals.Unmet why)) s keeper
 refused_done t s keeper why = unput t s s keeper (refused why) _ (by_step refl refl) refl (λ e. cc e) (λ e. cc e)
 
-pub told_done : {K : Type 0} (t : Telling K) (s : State) (keeper : K) (answer : Answer) →
+told_done : {K : Type 0} (t : Telling K) (s : State) (keeper : K) (answer : Answer) →
     IsDone t s keeper (told s.desks answer) (Ok answer) s keeper
 told_done t s keeper answer = unput t s s keeper (told s.desks answer) _ (by_step refl refl) refl (λ e. cc e) (λ e. cc e)
 
--- a change that is kept
-changed_done : {K : Type 0} (t : Telling K) (s : State) (old new : K) (c : Change) (answer : Answer) →
-    t.kept new ≡ option_map (with_change c) (t.kept old) → t.used old + t.units old c ≤ t.limit old → t.used new ≡ t.used old + t.units old c →
-    t.limit new ≡ t.limit old → t.units new ≡ t.units old → t.faults old ≤ t.faults new → t.alien new ≡ t.alien old →
+-- what a keeper tells that keeps a change
+pub record IsKept {K : Type 0} (t : Telling K) (old new : K) (c : Change) : Type 0 where
+  pub kept : t.kept new ≡ option_map (with_change c) (t.kept old)
+  pub room : t.used old + t.units old c ≤ t.limit old
+  pub used : t.used new ≡ t.used old + t.units old c
+  pub limit : t.limit new ≡ t.limit old
+  pub units : t.units new ≡ t.units old
+  pub later : t.faults old ≤ t.faults new
+  pub own : t.alien new ≡ t.alien old
+
+changed_done : {K : Type 0} (t : Telling K) (s : State) (old new : K) (c : Change) (answer : Answer) → IsKept t old new c →
     IsDone t s old (changed c s.desks answer) (Ok answer) (record s { kept = effect s.kept c }) new
-changed_done t s old new c answer kept room used limit units later own = record {
+changed_done t s old new c answer is = record {
   answered = by_step refl refl;
-  kept = kept;
+  kept = is.kept;
   full = λ e. absurd (cc e);
   no_room = λ d some lt.
       let same : c ≡ d = cc some in
       let here = subst (λ (one : Change). HasNoRoom t old one) (sym same) lt in
-      let none : ⊥ = omega (arith, room, here) in absurd none;
-  same_limit = limit;
-  same_units = units;
-  used = λ d one some e. let same : c ≡ d = cc some in used ∙ ap (λ (k : Change). t.used old + t.units old k) same;
+      let none : ⊥ = omega (arith, is.room, here) in absurd none;
+  same_limit = is.limit;
+  same_units = is.units;
+  used = λ d one some e. let same : c ≡ d = cc some in is.used ∙ ap (λ (k : Change). t.used old + t.units old k) same;
   told_used = λ none. absurd (cc none);
   same_used = λ why e. absurd (cc e);
-  later = later;
+  later = is.later;
   not_kept = λ e. absurd (cc e);
-  own = own;
+  own = is.own;
 }
 
 -- what a fault of the keeper tells
@@ -127,49 +136,63 @@ unkept_done t s old new c answer fault is = record {
   own = is.own;
 }
 
--- ---- a change, as the tables prepared it: they are of the records of this state
+-- ---- a change, as the tables of a library prepared it
 
-module _ {K : Type 0} (t : Telling K) (s : State) (r : Records) (same : r ≡ s.kept) (c : Change) where
-  by_done : (old keeper : K) (done : Result Bool Unmet) (reply : Reply) (new : State) → does r c ≡ done →
-      IsDone t s old (by_change s.kept s.desks c done) reply new keeper → IsDone t s old (made s.kept s.desks c) reply new keeper
-  by_done old keeper done reply new is this =
-      subst (λ (d : Result Bool Unmet). IsDone t s old (by_change s.kept s.desks c d) reply new keeper)
-      (sym (subst (λ (q : Records). does q c ≡ done) same is)) this
+abbrev pub seen : {K : Type 0} → Records → List NodeView → K → LibraryView K
+seen r tree keeper = record { state = record { kept = r; desks = no_desks }; tree = tree; keeper = keeper }
 
-  pub make_refused : (keeper : K) (why : Unmet) → does r c ≡ Err why →
-      IsDone t s keeper (made s.kept s.desks c) (Err (refusals.Unmet why)) (record s { kept = r }) keeper
-  make_refused keeper why is =
-      subst (λ (q : Records). IsDone t s keeper (made s.kept s.desks c) (Err (refusals.Unmet why)) (record s { kept = q }) keeper) (sym same)
-      (by_done keeper keeper (Err why) _ s is (refused_done t s keeper why))
+abbrev IsMade : {K : Type 0} → Telling K → LibraryView K → Change → Reply → Records → K → Type 0
+IsMade t l c reply new keeper =
+    IsDone t l.state l.keeper (made l.state.kept l.state.desks c) reply (record { kept = new; desks = no_desks }) keeper
 
-  answered : (answer : Answer) → answer_to r c ≡ answer → answer_to s.kept c ≡ answer
-  answered answer gave = subst (λ (q : Records). answer_to q c ≡ answer) same gave
+-- the records of the tables are those before the plan, which contracts see of the library
+module _ {K : Type 0} (t : Telling K) (l : LibraryView K) (r before : Records) (tree : List NodeView) (old : K) (view : seen before tree old ≡ l) (same : r ≡ before) (c : Change) where
+  at_view : (reply : Reply) (new : Records) (keeper : K) → IsMade t (seen r tree old) c reply new keeper → IsMade t l c reply new keeper
+  at_view reply new keeper this =
+      subst (λ (m : LibraryView K). IsMade t m c reply new keeper) view
+      (subst (λ (q : Records). IsMade t (seen q tree old) c reply new keeper) same this)
 
-  pub make_idle : (keeper : K) (answer : Answer) → does r c ≡ Ok true → answer_to r c ≡ answer →
-      IsDone t s keeper (made s.kept s.desks c) (Ok answer) (record s { kept = r }) keeper
-  make_idle keeper answer is gave =
-      subst (λ (q : Records). IsDone t s keeper (made s.kept s.desks c) (Ok answer) (record s { kept = q }) keeper) (sym same)
-      (subst (λ (a : Answer). IsDone t s keeper (made s.kept s.desks c) (Ok a) s keeper) (answered answer gave)
-      (by_done keeper keeper (Ok true) _ s is (told_done t s keeper (answer_to s.kept c))))
+  abbrev s : State
+  s = (seen r tree old).state
 
-  pub make_ready : (new : Records) (old keeper : K) (answer : Answer) →
-      does r c ≡ Ok false → answer_to r c ≡ answer → new ≡ effect r c →
-      t.kept keeper ≡ option_map (with_change c) (t.kept old) → t.used old + t.units old c ≤ t.limit old → t.used keeper ≡ t.used old + t.units old c →
-      t.limit keeper ≡ t.limit old → t.units keeper ≡ t.units old → t.faults old ≤ t.faults keeper → t.alien keeper ≡ t.alien old →
-      IsDone t s old (made s.kept s.desks c) (Ok answer) (record s { kept = new }) keeper
-  make_ready new old keeper answer is gave leads kept room used limit units later own =
-      subst (λ (q : Records). IsDone t s old (made s.kept s.desks c) (Ok answer) (record s { kept = q }) keeper) (sym (leads ∙ ap (λ (q : Records). effect q c) same))
-      (subst (λ (a : Answer). IsDone t s old (made s.kept s.desks c) (Ok a) (record s { kept = effect s.kept c }) keeper) (answered answer gave)
-      (by_done old keeper (Ok false) _ _ is
-      (changed_done t s old keeper c (answer_to s.kept c) kept room used limit units later own)))
+  by_done : (done : Result Bool Unmet) (reply : Reply) (new : Records) (keeper : K) → does r c ≡ done →
+      IsDone t s old (by_change r no_desks c done) reply (record { kept = new; desks = no_desks }) keeper → IsMade t l c reply new keeper
+  by_done done reply new keeper is this =
+      at_view reply new keeper
+      (subst (λ (d : Result Bool Unmet). IsDone t s old (by_change r no_desks c d) reply (record { kept = new; desks = no_desks }) keeper) (sym is) this)
 
-  pub make_fault : (old keeper : K) (new : Records) (why : Refusal) (fault : PutFault) → new ≡ r →
-      does r c ≡ Ok false → why ≡ put_refusal fault → IsFault t old keeper c fault →
-      IsDone t s old (made s.kept s.desks c) (Err why) (record s { kept = new }) keeper
-  make_fault old keeper new why fault back is why_is facts =
-      subst (λ (q : Records). IsDone t s old (made s.kept s.desks c) (Err why) (record s { kept = q }) keeper) (sym (back ∙ same))
-      (subst (λ (w : Refusal). IsDone t s old (made s.kept s.desks c) (Err w) s keeper) (sym why_is)
-      (by_done old keeper (Ok false) _ s is (unkept_done t s old keeper c (answer_to s.kept c) fault facts)))
+  pub make_refused : (why : Unmet) → does r c ≡ Err why → IsMade t l c (Err (refusals.Unmet why)) r old
+  make_refused why is = by_done (Err why) _ r old is (refused_done t s old why)
+
+  pub make_idle : (answer : Answer) → does r c ≡ Ok true → answer_to r c ≡ answer → IsMade t l c (Ok answer) r old
+  make_idle answer is gave =
+      subst (λ (a : Answer). IsMade t l c (Ok a) r old) gave (by_done (Ok true) _ r old is (told_done t s old (answer_to r c)))
+
+  pub make_ready : (new : Records) (keeper : K) (answer : Answer) → does r c ≡ Ok false → answer_to r c ≡ answer → new ≡ effect r c →
+      IsKept t old keeper c → IsMade t l c (Ok answer) new keeper
+  make_ready new keeper answer is gave leads kept =
+      subst (λ (q : Records). IsMade t l c (Ok answer) q keeper) (sym leads)
+      (subst (λ (a : Answer). IsMade t l c (Ok a) (effect r c) keeper) gave
+      (by_done (Ok false) _ (effect r c) keeper is (changed_done t s old keeper c (answer_to r c) kept)))
+
+  pub make_fault : (new : Records) (keeper : K) (why : Refusal) (fault : PutFault) → does r c ≡ Ok false → new ≡ r →
+      why ≡ put_refusal fault → IsFault t old keeper c fault → IsMade t l c (Err why) new keeper
+  make_fault new keeper why fault is back gave failed =
+      subst (λ (q : Records). IsMade t l c (Err why) q keeper) (sym back)
+      (subst (λ (w : Refusal). IsMade t l c (Err w) r keeper) (sym gave)
+      (by_done (Ok false) _ r keeper is (unkept_done t s old keeper c (answer_to r c) fault failed)))
+
+-- ---- what is asked
+
+pub ask_told : {K : Type 0} (t : Telling K) (s : State) (keeper : K) (asked : Result Answer Unmet) (answer : Answer) → asked ≡ Ok answer →
+    IsDone t s keeper (by_answer s.desks asked) (Ok answer) s keeper
+ask_told t s keeper asked answer is =
+    subst (λ (a : Result Answer Unmet). IsDone t s keeper (by_answer s.desks a) (Ok answer) s keeper) (sym is) (told_done t s keeper answer)
+
+pub ask_refused : {K : Type 0} (t : Telling K) (s : State) (keeper : K) (asked : Result Answer Unmet) (why : Unmet) → asked ≡ Err why →
+    IsDone t s keeper (by_answer s.desks asked) (Err (refusals.Unmet why)) s keeper
+ask_refused t s keeper asked why is =
+    subst (λ (a : Result Answer Unmet). IsDone t s keeper (by_answer s.desks a) (Err (refusals.Unmet why)) s keeper) (sym is) (refused_done t s keeper why)
 
 -- ---- who asks: there is no other caller yet
 

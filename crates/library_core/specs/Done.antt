@@ -28,12 +28,10 @@ HasNoRoom tells keeper c = tells.limit keeper < tells.used keeper + tells.units 
 pub record IsDone {K : Type 0} (tells : Telling K) (s : State) (old : K) (o : Outcome) (reply : Reply) (after : State) (new : K) : Type 0 where
   pub answered : Answered s o reply after
   pub kept : tells.kept new ≡ kept_with (change_of o) reply (tells.kept old)
-
   -- `journal_full` comes exactly where there is a change and no room for it
   pub full : reply ≡ Err refusals.JournalFull → (c : Change) → change_of o ≡ Some c → HasNoRoom tells old c
   pub no_room : (c : Change) → change_of o ≡ Some c → HasNoRoom tells old c
       → (reply ≡ Err refusals.NoMemory) ⊎ (reply ≡ Err refusals.JournalFull)
-
   -- room is used by the change that is kept alone
   pub same_limit : tells.limit new ≡ tells.limit old
   pub same_units : tells.units new ≡ tells.units old
@@ -41,7 +39,6 @@ pub record IsDone {K : Type 0} (tells : Telling K) (s : State) (old : K) (o : Ou
       → tells.used new ≡ tells.used old + tells.units old c
   pub told_used : change_of o ≡ None → tells.used new ≡ tells.used old
   pub same_used : (why : Refusal) → reply ≡ Err why → tells.used new ≡ tells.used old
-
   -- `not_kept` comes only where the keeper failed
   pub later : tells.faults old ≤ tells.faults new
   pub not_kept : reply ≡ Err refusals.NotKept → Rose (tells.faults old) (tells.faults new)

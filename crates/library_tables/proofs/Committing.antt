@@ -24,7 +24,14 @@ use Rattle.vp_tree.specs.declared.plan.InsertPlan.{InsertPlan}
 use Rattle.vp_tree.specs.Nodes.{words_in}
 use Rattle.tree_upkeep.specs.Queue.{Work, noted}
 use Rattle.library_machine.specs.Records.{Records, Fits}
-use Rattle.library_tables.specs.Tables.{TablesView, AreInStep, ArePairsOf, LeadsImport, LeadsLive, LeadsPairs, LeadsSearch, words_planned}
+use Rattle.library_tables.specs.declared.deletion.PlannedLive.{PlannedLive}
+use Rattle.library_tables.specs.declared.imports.PlannedImport.{PlannedImport}
+use Rattle.library_tables.specs.declared.searches.PlannedSearch.{PlannedSearch}
+use Rattle.library_tables.specs.Deletion.{LeadsLive}
+use Rattle.library_tables.specs.Imports.{LeadsImport, words_planned}
+use Rattle.library_tables.specs.Pairs.{LeadsPairs}
+use Rattle.library_tables.specs.Searches.{LeadsSearch}
+use Rattle.library_tables.specs.Tables.{TablesView, AreInStep, ArePairsOf, records_of}
 
 -- what the file records and the upkeep say of a queue in which a new file is noted
 pub record QueueLaws : Type 0 where
@@ -50,46 +57,46 @@ queue_with laws d row rows queued number told is =
     ∙ ap (λ (b : Bool). queue_of d rows ++ (if b then (record { 0 = length rows }) ∷ [] else [])) (sym told)
     ∙ sym (laws.one_more d row rows)
 
-pub import_in_step : QueueLaws → NearLaws → (t : TablesView) (plan : Planned) (inserts : List InsertPlan) (queued : Bool) (after : Records) →
-    AreInStep t → LeadsImport plan inserts queued t after →
+pub import_in_step : QueueLaws → NearLaws → (t : TablesView) (plan : PlannedImport) (after : Records) →
+    AreInStep t → LeadsImport plan t after →
     (files : Table FileRow) (book : Recorded) (groups : Kept) (tree : Table NodeView) (work : Work) (number : FileNo) →
-    files.rows ≡ t.files.rows ++ plan.row ∷ [] → words_of files.rows ≡ words_of t.files.rows ++ plan.words → number.0 ≡ length t.files.rows →
+    files.rows ≡ t.files.rows ++ plan.file.row ∷ [] → words_of files.rows ≡ words_of t.files.rows ++ plan.file.words → number.0 ≡ length t.files.rows →
     book.rows ≡ t.book.rows → book.files ≡ t.book.files + 1 →
     size_of groups ≡ size_of t.groups + 1 → relations_in groups ≡ relations_in t.groups →
-    words_in tree.rows ≡ words_in t.tree.rows ++ words_planned inserts → work.queue ≡ noted number queued t.work.queue →
+    words_in tree.rows ≡ words_in t.tree.rows ++ words_planned plan.words.items → work.queue ≡ noted number plan.queued t.work.queue →
     AreInStep (record { files = files; book = book; groups = groups; tree = tree; pairs = t.pairs; work = work; distance = t.distance })
-import_in_step laws near_laws t plan inserts queued after step leads files book groups tree work number rows words is same_book one_more size related placed noted_is = record {
+import_in_step laws near_laws t plan after step leads files book groups tree work number rows words is same_book one_more size related placed noted_is = record {
   fits = subst Fits (leads.leads ∙ rw (rows, same_book) refl) leads.fits;
   decided = one_more ∙ rw rows (omega (arith, step.decided, length-append t.files.rows));
   grouped = size ∙ rw rows (omega (arith, step.grouped, length-append t.files.rows));
   related = related ∙ step.related ∙ rw same_book refl;
   words =
-      placed ∙ ap (λ (ws : List Hash64). ws ++ words_planned inserts) step.words
+      placed ∙ ap (λ (ws : List Hash64). ws ++ words_planned plan.words.items) step.words
       ∙ ap (λ (ws : List Hash64). words_of t.files.rows ++ ws) leads.words ∙ sym words;
   paired = record {
-    near = step.paired.near ∙ sym (near_laws.one_more plan.row t.files.rows leads.unsearched) ∙ ap near_pairs (sym rows);
-    gone = step.paired.gone ∙ sym (near_laws.live_more plan.row t.files.rows leads.live) ∙ ap deleted (sym rows);
+    near = step.paired.near ∙ sym (near_laws.one_more plan.file.row t.files.rows leads.unsearched) ∙ ap near_pairs (sym rows);
+    gone = step.paired.gone ∙ sym (near_laws.live_more plan.file.row t.files.rows leads.live) ∙ ap deleted (sym rows);
     of = subst (λ (R : Relations). AreOf R t.pairs.rows) (sym related) step.paired.of;
   };
   queued =
-      noted_is ∙ ap (noted number queued) step.queued ∙ queue_with laws t.distance plan.row t.files.rows queued number leads.told is
+      noted_is ∙ ap (noted number plan.queued) step.queued ∙ queue_with laws t.distance plan.file.row t.files.rows plan.queued number leads.told is
       ∙ ap (queue_of t.distance) (sym rows);
 }
 
-pub search_in_step : (t : TablesView) (found : List FileNo) (d : ℕ) (plan : PlanView) (after : Records) → AreInStep t → LeadsSearch found d plan t after →
+pub search_in_step : (t : TablesView) (plan : PlannedSearch) (after : Records) → AreInStep t → LeadsSearch plan t after →
     ((d : ℕ) (named : List FileNo) (files : List FileRow) → length (searched d named files) ≡ length files) →
     ((d : ℕ) (named : List FileNo) (files : List FileRow) → words_of (searched d named files) ≡ words_of files) →
-    (files : Table FileRow) (work : Work) (pairs : PairsKept) → files.rows ≡ searched d found t.files.rows → work.queue ≡ queue_of t.distance files.rows →
-    pairs.rows ≡ pairs_after plan t.pairs.rows →
+    (files : Table FileRow) (work : Work) (pairs : PairsKept) → files.rows ≡ searched plan.distance plan.files t.files.rows → work.queue ≡ queue_of t.distance files.rows →
+    pairs.rows ≡ pairs_after plan.pairs t.pairs.rows →
     AreInStep (record { files = files; book = t.book; groups = t.groups; tree = t.tree; pairs = pairs; work = work; distance = t.distance })
-search_in_step t found d plan after step leads same_length same_words files work pairs rows queued paired =
-    let n : length files.rows ≡ length t.files.rows = ap length rows ∙ same_length d found t.files.rows in
+search_in_step t plan after step leads same_length same_words files work pairs rows queued paired =
+    let n : length files.rows ≡ length t.files.rows = ap length rows ∙ same_length plan.distance plan.files t.files.rows in
     record {
       fits = subst Fits (leads.leads ∙ rw rows refl) leads.fits;
       decided = step.decided ∙ sym n;
       grouped = step.grouped ∙ sym n;
       related = step.related;
-      words = step.words ∙ sym (same_words d found t.files.rows) ∙ ap words_of (sym rows);
+      words = step.words ∙ sym (same_words plan.distance plan.files t.files.rows) ∙ ap words_of (sym rows);
       paired = rw (rows, paired) leads.paired.paired;
       queued = queued;
     }
@@ -101,24 +108,24 @@ pub record LiveLaws : Type 0 where
   pub queue : (d : ℕ) (file : FileNo) (live : Bool) (files : List FileRow) → queue_of d (with_live_mark file.0 live files)
       ≡ noted file (live && passes (wants_search d) files file.0) (queue_of d files)
 
-pub live_in_step : LiveLaws → (t : TablesView) (file : FileNo) (live queued : Bool) (plan : PlanView) (after : Records) →
-    AreInStep t → LeadsLive file live queued plan t after →
-    (files : Table FileRow) (work : Work) (pairs : PairsKept) → files.rows ≡ with_live_mark file.0 live t.files.rows →
-    work.queue ≡ noted file queued t.work.queue → pairs.rows ≡ pairs_after plan t.pairs.rows →
+pub live_in_step : LiveLaws → (t : TablesView) (plan : PlannedLive) (after : Records) →
+    AreInStep t → LeadsLive plan t after →
+    (files : Table FileRow) (work : Work) (pairs : PairsKept) → files.rows ≡ with_live_mark plan.file.0 plan.live t.files.rows →
+    work.queue ≡ noted plan.file plan.queued t.work.queue → pairs.rows ≡ pairs_after plan.pairs t.pairs.rows →
     AreInStep (record { files = files; book = t.book; groups = t.groups; tree = t.tree; pairs = pairs; work = work; distance = t.distance })
-live_in_step laws t file live queued plan after step leads files work pairs rows noted_is paired =
-    let n : length files.rows ≡ length t.files.rows = ap length rows ∙ laws.same_length file.0 live t.files.rows in
+live_in_step laws t plan after step leads files work pairs rows noted_is paired =
+    let n : length files.rows ≡ length t.files.rows = ap length rows ∙ laws.same_length plan.file.0 plan.live t.files.rows in
     record {
       fits = subst Fits (leads.leads ∙ rw rows refl) leads.fits;
       decided = step.decided ∙ sym n;
       grouped = step.grouped ∙ sym n;
       related = step.related;
-      words = step.words ∙ sym (laws.words file.0 live t.files.rows) ∙ ap words_of (sym rows);
+      words = step.words ∙ sym (laws.words plan.file.0 plan.live t.files.rows) ∙ ap words_of (sym rows);
       paired = rw (rows, paired) leads.paired.paired;
       queued =
-          noted_is ∙ ap (noted file queued) step.queued
-          ∙ ap (λ (b : Bool). noted file b (queue_of t.distance t.files.rows)) (sym leads.told)
-          ∙ sym (laws.queue t.distance file live t.files.rows) ∙ ap (queue_of t.distance) (sym rows);
+          noted_is ∙ ap (noted plan.file plan.queued) step.queued
+          ∙ ap (λ (b : Bool). noted plan.file b (queue_of t.distance t.files.rows)) (sym leads.told)
+          ∙ sym (laws.queue t.distance plan.file plan.live t.files.rows) ∙ ap (queue_of t.distance) (sym rows);
     }
 
 -- without files there are no words, none is near, and none waits

@@ -1,7 +1,8 @@
 pub mod Committing
+pub mod Deciding
+pub mod Importing
 pub mod PotentialPairs
 pub mod Placing
-pub mod Preparing
 pub mod Queueing
 pub mod Refolding
-pub mod Risen
+pub mod Rising

@@ -9,7 +9,7 @@ use Rattle.spare_tables.specs.Table.{Table}
 use Rattle.vp_tree.specs.declared.plan.InsertPlan.{InsertPlan}
 use Rattle.vp_tree.specs.Nodes.{words_in}
 use Rattle.vp_tree.specs.Placing.{CanTake}
-use Rattle.library_tables.specs.Tables.{words_planned}
+use Rattle.library_tables.specs.Imports.{words_planned}
 use Rattle.file_records.specs.declared.file_row.FileRow.{FileRow}
 use Rattle.file_records.specs.Importing.{IsPlannedFor, Planned}
 use Rattle.file_records.specs.Words.{AreDistinctWords, is_among, new_words, words_of}

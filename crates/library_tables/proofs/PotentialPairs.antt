@@ -3,19 +3,15 @@ use Rattle.std.proofs.Common.{◌≡◌, ◌<◌, ℕ, List, length, map, refl, 
 use Rattle.std.specs.List.{All}
 use Rattle.std.proofs.lemmas.Bool.{ltb-true, lt-ltb}
 use Rattle.media_types.specs.declared.decision.Decision.{Decision}
-use Rattle.media_types.specs.declared.pair_page.PairPage.{PairPage}
-use Rattle.media_base.specs.declared.reply.Reply.TheVariants as replies
 use Rattle.file_records.specs.Near.{near_pairs}
 use Rattle.file_records.specs.declared.file_row.FileRow.{FileRow}
 use Rattle.relation_groups.specs.Clusters.{IsClosed}
 use Rattle.relation_groups.specs.Laws.{ClosedSetsSplit}
 use Rattle.relation_groups.specs.Reading.{is_below, relations_in}
 use Rattle.relation_groups.specs.Relations.{AreAmong, Relations, relations}
-use Rattle.potential_pairs.specs.Pages.{named, page_of, within}
-use Rattle.potential_pairs.specs.Potential.{AreBelow, AreOf, PairsView, Row, potentials}
-use Rattle.library_machine.specs.Step.{pair_count, pairs, potential_pairs}
-use Rattle.library_tables.specs.Tables.{TablesView, AreInStep, IsPrepared, records_of}
-use Rattle.library_tables.specs.declared.plan.Prepared.TheVariants as prepared
+use Rattle.potential_pairs.specs.Potential.{AreBelow, AreOf, PairsView, potentials}
+use Rattle.library_machine.specs.Asking.{potential_pairs}
+use Rattle.library_tables.specs.Tables.{TablesView, AreInStep, records_of}
 use Rattle.library_tables.proofs.Refolding.{AllRecorded, standing_among}
 
 -- what the crates below say of kept pairs
@@ -43,14 +39,3 @@ pairs_are laws t step =
     let below : AreBelow n t.pairs.rows.near = rw step.paired.near (laws.below t.files.rows) in
     laws.read n (relations_in t.groups) t.pairs.rows step.paired.of below (λ f lt. rw step.related (king_below laws.split n _ among f lt))
     ∙ rw (step.related, step.paired.gone, step.paired.near) refl
-
-pub pairs_prepared : (t : TablesView) (page : PairPage) (rows : List Row) → rows ≡ potential_pairs (records_of t) →
-    IsPrepared (pairs (records_of t) page) t (prepared.Told (replies.Pairs (map named (page_of page.after page.n page.at_most rows))))
-unfolding pairs
-pairs_prepared t page rows are =
-    (refl, ap (λ (all : List Row). replies.Pairs (map named (page_of page.after page.n page.at_most all))) (sym are), refl)
-
-pub count_prepared : (t : TablesView) (m : ℕ) (rows : List Row) → rows ≡ potential_pairs (records_of t) →
-    IsPrepared (pair_count (records_of t) m) t (prepared.Told (replies.PairCount (length (within m rows))))
-unfolding pair_count
-count_prepared t m rows are = (refl, ap (λ (all : List Row). replies.PairCount (length (within m all))) (sym are), refl)

@@ -1,38 +1,74 @@
--- How much a command reads at most through tables that count, where that is bounded.
-use Rattle.std.specs.Prelude.{◌≤◌, ◌+◌, ◌*◌, ℕ, List, length, filter, Option, Some, None, IfSome}
+-- How much is read at most through tables that count, where that is bounded.
+use Rattle.std.specs.Prelude.{◌≤◌, ◌+◌, ◌*◌, ℕ, List, length, filter, Option, Some, None, IfSome, IsSomeAnd}
 use Rattle.media_types.specs.declared.numbers.FileNo.{FileNo}
 use Rattle.media_types.specs.declared.searching.Searching.{Searching}
+use Rattle.media_base.specs.declared.change.Change.{Change}
+use Rattle.media_base.specs.declared.change.Change.TheVariants as changes
 use Rattle.media_base.specs.declared.command.Command.{Command}
 use Rattle.media_base.specs.declared.command.Command.TheVariants as commands
+use Rattle.media_base.specs.declared.command.Job.{Job}
+use Rattle.media_base.specs.declared.command.Job.TheVariants as jobs
+use Rattle.media_base.specs.declared.command.Query.{Query}
+use Rattle.media_base.specs.declared.command.Query.TheVariants as queries
 use Rattle.file_records.specs.Near.{near_pairs}
-use Rattle.file_records.specs.Searching.{rising}
 use Rattle.potential_pairs.specs.Planning.{has_file}
 use Rattle.vp_tree.specs.declared.node.NodeView.{NodeView}
 use Rattle.near_search.specs.Work.{work}
+use Rattle.library_machine.specs.Jobs.{Deed, tells, makes, worked_out}
 use Rattle.library_machine.specs.Records.{Records}
-use Rattle.library_machine.specs.Step.{next_search}
+use Rattle.library_machine.specs.Searches.{next_search, risen}
 
 -- what a search meets: its files, and what is met for the hashes of those whose searched distance rises
 abbrev pub search_meets : Records → List NodeView → Searching → ℕ
-search_meets r tree s = length s.files + work tree r.files s.distance (rising s.distance s.files r.files)
-
-abbrev pub search_reads : Records → List NodeView → Searching → ℕ
-search_reads r tree s = 64 * (1 + search_meets r tree s)
+search_meets r tree s = length s.files + work tree r.files s.distance (risen r s)
 
 -- A bound on what a deletion reads, or its taking back: eight for each near pair that the file is of, and
 -- sixteen. It may read less.
 abbrev pub live_reads : Records → FileNo → ℕ
 live_reads r file = 8 * (2 + length (filter (λ row. has_file file.0 row.0) (near_pairs r.files)))
 
--- for each command; for a page of n pairs the heads of 17 distances, and two for each pair
+-- for a page of n pairs the heads of 17 distances, and two for each pair
+abbrev pub query_reads : Query → Option ℕ
+query_reads (queries.Pairs page) = Some (2 * page.n + 17)
+query_reads query = None
+
+abbrev pub change_reads : Records → List NodeView → Change → Option ℕ
+change_reads r tree (changes.Live file live) = Some (live_reads r file)
+change_reads r tree (changes.Searched s) = Some (32 * (1 + search_meets r tree s))
+change_reads r tree change = None
+
+-- until the change is worked out
+abbrev pub job_reads : Records → Job → Option ℕ
+job_reads r (jobs.Search n) = Some (1 + length (next_search r n).files)
+
+-- where nothing is to be done, nothing more is read
+abbrev pub deed_reads : Records → List NodeView → Deed → Option ℕ
+deed_reads r tree (tells answer) = Some 0
+deed_reads r tree (makes change) = change_reads r tree change
+
+-- the one and then the other, where both are bounded
+abbrev pub together : Option ℕ → Option ℕ → Option ℕ
+together (Some a) (Some b) = Some (a + b)
+together (Some a) None = None
+together None other = None
+
+-- for what is done: a job is worked out, and then its change is made
 abbrev pub most_reads : Records → List NodeView → Command → Option ℕ
-most_reads r tree (commands.Delete file) = Some (live_reads r file)
-most_reads r tree (commands.Undelete file) = Some (live_reads r file)
-most_reads r tree (commands.Pairs page) = Some (2 * page.n + 17)
-most_reads r tree (commands.SearchFiles s) = Some (search_reads r tree s)
-most_reads r tree (commands.SearchJob n) = Some (search_reads r tree (next_search r n))
-most_reads r tree command = None
+most_reads r tree (commands.Ask q) = query_reads q
+most_reads r tree (commands.Do c) = change_reads r tree c
+most_reads r tree (commands.Run j) = together (job_reads r j) (deed_reads r tree (worked_out r j))
+most_reads r tree (commands.Tend u) = None
 
 -- the count of steps is within the bound, where there is one
 abbrev pub IsWithin : Option ℕ → ℕ → ℕ → Type 0
 IsWithin most old new = IfSome most (λ n. new ≤ old + n)
+
+-- sixty-four for each that a search meets, and sixty-four
+abbrev pub search_reads : Records → List NodeView → Searching → ℕ
+search_reads r tree s = 64 * (1 + search_meets r tree s)
+
+-- a search reads no more, whether its files are named or are the next of the queue
+abbrev pub SearchesReadFew : Type 0
+SearchesReadFew = (r : Records) (tree : List NodeView) →
+    ((s : Searching) → IsSomeAnd (most_reads r tree (commands.Do (changes.Searched s))) (λ most. most ≤ search_reads r tree s))
+    × ((n : ℕ) → IsSomeAnd (most_reads r tree (commands.Run (jobs.Search n))) (λ most. most ≤ search_reads r tree (next_search r n)))

@@ -1,7 +1,16 @@
 pub mod Counting
+pub mod Decisions
+pub mod Deletion
+pub mod Imports
+pub mod Pairs
+pub mod Preparing
+pub mod Searches
 pub mod Tables
+pub use Rattle.library_machine.specs.Asking
+pub use Rattle.library_machine.specs.Changing
+pub use Rattle.library_machine.specs.Jobs
+pub use Rattle.library_machine.specs.Opening
 pub use Rattle.library_machine.specs.Records
-pub use Rattle.library_machine.specs.Changes
 pub use Rattle.library_machine.specs.Step
 pub use Rattle.file_records.specs.Words
 pub use Rattle.vp_tree.specs.Nodes

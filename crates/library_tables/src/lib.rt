@@ -1,16 +1,26 @@
 //! The tables of a library: what is recorded, kept so that commands are answered without working all out anew.
 //!
-//! A command is planned first, which takes all memory and changes nothing. Then its change is committed, which
-//! takes none and can't be refused, or it is withdrawn. The tables know nothing of keepers.
+//! A query is answered. A change is planned first, which takes all memory and changes nothing. Then the plan is
+//! committed, which takes none and can't be refused, or it is withdrawn. A job works out a change. The tables
+//! know nothing of keepers.
 #![tactic(auto)]
 
+mod decisions;
+mod deletion;
+mod imports;
+mod kinds;
+mod laws;
 mod numbers;
-mod pairing;
+mod pairs;
 mod plan;
-mod planning;
-mod searching;
+mod searches;
 mod tables;
 mod words;
 
-pub use plan::{Prepared, TablesPlan};
+pub use decisions::{PlannedDecision, PlannedUndo};
+pub use deletion::PlannedLive;
+pub use imports::PlannedImport;
+pub use laws::searches_read_few;
+pub use plan::{Deed, Prepared, TablesPlan};
+pub use searches::{PlannedDistance, PlannedSearch};
 pub use tables::Tables;

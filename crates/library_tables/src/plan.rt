@@ -1,69 +1,47 @@
-use file_records::ImportPlan;
-use media_base::{Change, Decision, DecisionNo, FileList, FileNo, Refusal, Reply, SearchDistance};
-use potential_pairs::PairPlan;
-use relation_groups::GroupPlan;
-use tree_upkeep::QueuePlan;
-use vp_tree::InsertPlan;
+use crate::decisions::{PlannedDecision, PlannedUndo};
+use crate::deletion::PlannedLive;
+use crate::imports::PlannedImport;
+use crate::searches::{PlannedDistance, PlannedSearch};
+use media_base::{Answer, Change, Unmet};
 
 /// A change of the tables that is ready to be made. Dropped, it changes nothing.
 #[derive(Drop)]
 pub enum TablesPlan {
-    Import {
-        file: ImportPlan,
-        words: Vec<InsertPlan>,
-        /// Whether the file is to be searched.
-        queued: bool,
-    },
-    Live {
-        file: FileNo,
-        live: bool,
-        /// Whether the file is to be searched then.
-        queued: bool,
-        pairs: PairPlan,
-    },
-    Decide {
-        decision: Decision,
-        groups: GroupPlan,
-        pairs: PairPlan,
-    },
-    Undo {
-        number: DecisionNo,
-        groups: GroupPlan,
-        pairs: PairPlan,
-    },
-    Distance {
-        distance: SearchDistance,
-        queue: QueuePlan,
-    },
-    /// The files are those whose searched distance rises.
-    Search {
-        files: FileList,
-        distance: SearchDistance,
-        pairs: PairPlan,
-    },
+    Import(PlannedImport),
+    Live(PlannedLive),
+    Decide(PlannedDecision),
+    Undo(PlannedUndo),
+    Distance(PlannedDistance),
+    Search(PlannedSearch),
 }
 
-/// What a command comes to.
+/// What a change comes to.
 #[derive(Drop)]
 pub enum Prepared {
-    /// It changes nothing, and this is its reply.
-    Told(Reply),
-    /// It changes the tables by the plan. The change is to be kept first, and then this is its reply.
-    Change {
-        plan: TablesPlan,
-        change: Change,
-        reply: Reply,
-    },
+    /// The records lack what it needs.
+    Refused(Unmet),
+    /// It would change nothing, and this is the answer.
+    Idle(Answer),
+    /// The plan makes it. The change is to be kept first, and then this is the answer.
+    Ready(TablesPlan, Answer),
 }
 
-impl From<Refusal> for Prepared {
+impl From<Unmet> for Prepared {
     ghost use Rattle.std.specs.Prelude.{◌≡◌};
-    ghost use Rattle.media_base.specs.declared.reply.Reply.TheVariants as replies;
     ghost use Rattle.library_tables.specs.declared.plan.Prepared.TheVariants as prepared;
 
-    ghost from_gives = { λ why told. told ≡ prepared.Told (replies.Refused why) };
+    ghost from_gives = { λ why refused. refused ≡ prepared.Refused why };
 
-    fn from(why: Refusal) -> Prepared {
-        Prepared::Told(Reply::Refused(why))
+    fn from(why: Unmet) -> Prepared {
+        Prepared::Refused(why)
     }
+}
+
+/// What a job comes to.
+#[derive(Drop)]
+pub enum Deed {
+    /// There is nothing to do, and this is the answer.
+    Tells(Answer),
+    /// This change is to be made.
+    Makes(Change),
 }

@@ -5,7 +5,7 @@ ghost use Rattle.media_types.specs.declared.limits.TheConstants.{MAX_HASHES, MAX
 ghost use Rattle.file_records.specs.Words.{AreDistinctWords};
 ghost use Rattle.vp_tree.specs.Nodes.{words_in};
 ghost use Rattle.vp_tree.specs.Placing.{ArePlaced};
-ghost use Rattle.library_tables.specs.Tables.{words_planned};
+ghost use Rattle.library_tables.specs.Imports.{words_planned};
 
 use media_base::{Hash64, NoMemory, Steps};
 use std::alloc::Global;

@@ -4,7 +4,7 @@ use Rattle.media_types.specs.declared.hash.Hash64.{Hash64}
 use Rattle.vp_tree.specs.declared.plan.InsertPlan.{InsertPlan}
 use Rattle.vp_tree.specs.Nodes.{words_in}
 use Rattle.vp_tree.specs.Placing.{ArePlaced}
-use Rattle.library_tables.specs.Tables.{words_planned}
+use Rattle.library_tables.specs.Imports.{words_planned}
 use Rattle.library_tables.proofs.Placing.{can_take, ended}
 use Rattle.library_tables.proofs.words.place_words.Goals as goal
 

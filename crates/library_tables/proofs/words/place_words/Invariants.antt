@@ -1,7 +1,7 @@
 use Rattle.std.proofs.Common.{◌≡◌, ◌≤◌, ◌++◌, [], length}
 use Rattle.vp_tree.specs.Nodes.{words_in}
 use Rattle.vp_tree.specs.Placing.{ArePlaced}
-use Rattle.library_tables.specs.Tables.{words_planned}
+use Rattle.library_tables.specs.Imports.{words_planned}
 use Rattle.library_tables.proofs.words.place_words.Given as goal
 
 abbrev pub invariant-loop-plan : goal.invariant-loop-plan

@@ -2,7 +2,7 @@ use Rattle.std.proofs.Common.{◌++◌, List, [], ◌∷◌, take, get_or, refl,
 use Rattle.std.proofs.lemmas.List.{map-append, take_all, take_more, get_or_default}
 use Rattle.media_types.specs.declared.hash.Hash64.{Hash64}
 use Rattle.vp_tree.specs.declared.plan.InsertPlan.{InsertPlan}
-use Rattle.library_tables.specs.Tables.{words_planned}
+use Rattle.library_tables.specs.Imports.{words_planned}
 use Rattle.library_tables.proofs.Placing.{not_there, room_for}
 use Rattle.library_tables.proofs.words.plan_words.Goals as goal
 

@@ -1,6 +1,6 @@
 use Rattle.std.proofs.Common.{◌≡◌, ◌≤◌, ◌<◌, take}
 use Rattle.media_types.specs.declared.limits.TheConstants.{MAX_HASHES}
-use Rattle.library_tables.specs.Tables.{words_planned}
+use Rattle.library_tables.specs.Imports.{words_planned}
 use Rattle.library_tables.proofs.words.plan_words.Given as goal
 
 abbrev pub invariant-loop-word : goal.invariant-loop-word

@@ -1,17 +1,12 @@
-use Rattle.std.proofs.Common.{◌≡◌, length, arith, subst, ◌∙◌}
+use Rattle.std.proofs.Common.{◌≡◌, length, arith, ◌∙◌}
 use Rattle.std.proofs.lemmas.List.FromFn.{length-map-range_with_len}
-use Rattle.media_base.specs.declared.change.Change.TheVariants as changes
-use Rattle.media_base.specs.declared.reply.Reply.TheVariants as replies
 use Rattle.decision_book.specs.Recorded.{undone_at}
 use Rattle.decision_book.specs.Standing.{standing}
 use Rattle.relation_groups.specs.Reading.{relations_after}
 use Rattle.relation_groups.specs.Relations.{relations}
-use Rattle.library_machine.specs.Step.{undo}
-use Rattle.library_tables.specs.Tables.{TablesView, IsPrepared, records_of}
-use Rattle.library_tables.specs.declared.plan.Prepared.TheVariants as prepared
-use Rattle.library_tables.specs.declared.plan.TablesPlan.TheVariants as plans
-use Rattle.library_tables.proofs.Committing.{below_step, of_step, pairs_moved}
-use Rattle.library_tables.proofs.Preparing.{sound_here, undo_prepared}
+use Rattle.library_tables.specs.Tables.{TablesView}
+use Rattle.library_tables.proofs.Committing.{pairs_moved}
+use Rattle.library_tables.proofs.Deciding.{sound_here, undo_prepared}
 use Rattle.library_tables.proofs.Refolding.{file_of, files_known, all_within, all_split, all_anew, standing_among, left_among, left_of_two}
 use Rattle.library_tables.proofs.tables.Tables.plan_undo.Goals as goal
 
@@ -47,12 +42,6 @@ plan_refold-requires-clause-closed g c =
     rw (c.in_ok-files.ensures, c.len-2.ensures.rows, c.self.invariant.related)
     (all_split c.laws-2.ensures.split m _ (standing_among c.laws.ensures.all_recorded m c.self.inside.book.rows c.self.invariant.fits.among))
 
-pub plan_moved-requires-clause-of : goal.plan_moved-requires-clause-of
-plan_moved-requires-clause-of g c = of_step _ _ c.self.invariant c.plan_refold.ensures.same
-
-pub plan_moved-requires-clause-below : goal.plan_moved-requires-clause-below
-plan_moved-requires-clause-below g c = below_step c.near_laws.ensures.below _ _ c.self.invariant c.plan_refold.ensures.same
-
 pub plan_moved-requires-clause-sound : goal.plan_moved-requires-clause-sound
 plan_moved-requires-clause-sound g c = sound_here c.laws-2.ensures.sound c.laws.ensures.all_recorded _ _ c.self.invariant c.plan_refold.ensures.same
 
@@ -68,9 +57,6 @@ plan_moved-requires-clause-sound_after g c =
     (all_anew c.laws-2.ensures.others_stay m _ _ (standing_among c.laws.ensures.all_recorded m rows among) (left_among c.laws.ensures.all_recorded c.laws.ensures.undoing_keeps_decisions n.0 m rows among)) in
     rw anew (c.laws-2.ensures.sound _ (left_of_two c.laws.ensures.all_recorded c.laws.ensures.undoing_keeps_decisions n.0 rows c.self.invariant.fits.of_two))
 
-pub plan_moved-requires-clause-moves : goal.plan_moved-requires-clause-moves
-plan_moved-requires-clause-moves g c = rw (c.in_ok-groups.ensures.after, c.plan_refold.ensures.same) c.in_ok-groups.ensures.moves
-
 pub returns-clause-prepared : goal.returns-clause-prepared
 returns-clause-prepared g c =
     let n = c.args.number in
@@ -78,12 +64,10 @@ returns-clause-prepared g c =
     let rows = c.self.inside.book.rows in
     let among = c.self.invariant.fits.among in
     let new : TablesView = record { files = c.self.inside.files; book = c.self.inside.book; groups = c.plan_refold.new.self; tree = c.self.inside.tree; pairs = c.plan_moved.new.self; work = c.self.inside.upkeep; distance = c.self.inside.distance } in
-    let done = prepared.Change (plans.Undo n c.in_ok-groups.groups c.in_ok-pairs.pairs) (changes.Undo n) (replies.Undone n) in
     let anew : relations_after c.in_ok-groups.groups c.plan_refold.new.self ≡ relations (standing (undone_at n.0 rows)) =
     c.in_ok-groups.ensures.after
     ∙ rw (c.in_ok-files.ensures, c.len-2.ensures.rows, c.in_ok-standing.ensures, c.self.invariant.related)
     (all_anew c.laws-2.ensures.others_stay m _ _ (standing_among c.laws.ensures.all_recorded m rows among) (left_among c.laws.ensures.all_recorded c.laws.ensures.undoing_keeps_decisions n.0 m rows among)) in
-    subst (λ (t : TablesView). IsPrepared (undo (records_of t) n) new done) c.self.view_is
-    (undo_prepared _ c.plan_refold.new.self c.plan_moved.new.self n c.row.result c.in_ok-groups.groups c.in_ok-pairs.pairs c.records_stay_fit.ensures.after_a_step c.self.invariant
+    undo_prepared c.records_stay_fit.ensures.after_a_change new (record { number = n; groups = c.in_ok-groups.groups; pairs = c.in_ok-pairs.pairs }) c.row.result c.self.invariant.fits
     c.row.ensures.row c.if-row.false c.in_ok-groups.ensures.fits anew
-    (pairs_moved _ _ _ c.self.inside.pairs c.plan_moved.new.self c.in_ok-pairs.pairs c.self.invariant.paired c.in_ok-pairs.ensures.room c.in_ok-pairs.ensures.near c.in_ok-pairs.ensures.gone c.in_ok-pairs.ensures.of_after))
+    (pairs_moved _ _ _ c.self.inside.pairs c.plan_moved.new.self c.in_ok-pairs.pairs c.self.invariant.paired c.in_ok-pairs.ensures.room c.in_ok-pairs.ensures.near c.in_ok-pairs.ensures.gone c.in_ok-pairs.ensures.of_after)

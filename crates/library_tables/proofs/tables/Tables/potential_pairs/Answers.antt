@@ -1,5 +1,5 @@
 use Rattle.std.proofs.Common.{ap, ◌∙◌}
-use Rattle.library_machine.specs.Step.{potential_pairs}
+use Rattle.library_machine.specs.Asking.{potential_pairs}
 use Rattle.library_tables.specs.Tables.{TablesView, records_of}
 use Rattle.library_tables.proofs.PotentialPairs.{Laws, pairs_are}
 use Rattle.library_tables.proofs.tables.Tables.potential_pairs.Goals as goal

@@ -1,12 +1,17 @@
-use Rattle.std.proofs.Common.{◌≡◌, true, subst, sym}
-use Rattle.library_machine.specs.Step.{relations, has_file}
-use Rattle.library_tables.specs.Tables.{TablesView, IsPrepared, records_of}
-use Rattle.library_tables.proofs.Preparing.{relations_prepared}
-use Rattle.library_tables.specs.declared.plan.Prepared.TheVariants as prepared
-use Rattle.media_base.specs.declared.reply.Reply.TheVariants as replies
+use Rattle.std.proofs.Common.{◌≡◌, true, Ok, refl, ap, subst, sym, ◌∙◌}
+use Rattle.media_types.specs.declared.file_relations.FileRelations.{FileRelations}
+use Rattle.media_base.specs.declared.command.Query.TheVariants as queries
+use Rattle.media_base.specs.declared.reply.Answer.TheVariants as answers
+use Rattle.library_machine.specs.Asking.{asked}
+use Rattle.library_machine.specs.Needs.{has_file}
+use Rattle.library_tables.specs.Tables.{TablesView, records_of}
+use Rattle.library_tables.proofs.Deciding.{relations_asked}
 use Rattle.library_tables.proofs.tables.Tables.tell_relations.Goals as goal
 
 pub returns : goal.returns
 returns c =
-    subst (λ (t : TablesView). IsPrepared (relations (records_of t) c.args.file) t (prepared.Told (replies.Relations c.in_ok-standing.field-0))) c.self.view_is
-    (relations_prepared _ c.args.file _ c.self.invariant (subst (λ (t : TablesView). has_file (records_of t) c.args.file ≡ true) (sym c.self.view_is) (sym c.if-not-has_file.ensures)) c.in_ok-standing.ensures)
+    let file = c.args.file in
+    let there = subst (λ (t : TablesView). has_file (records_of t) file ≡ true) (sym c.self.view_is) (sym c.if-not-has_file.ensures) in
+    let told = c.in_ok-standing.ensures ∙ rw (c.self.invariant.grouped, c.self.invariant.related) refl in
+    subst (λ (t : TablesView). Ok (answers.Relations c.in_ok-standing.field-0) ≡ asked (records_of t) (queries.Relations file)) c.self.view_is
+    (ap (λ (found : FileRelations). Ok (answers.Relations found)) told ∙ sym (relations_asked _ file there))
