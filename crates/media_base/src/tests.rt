@@ -166,3 +166,26 @@ fn want_of_memory_has_its_names(rt: HostRuntime) {
     assert_eq!(rt; NextFault::from(NoMemory), NextFault::NoMemory);
     assert_eq!(rt; PutFault::from(NoMemory), PutFault::NoMemory);
 }
+
+#[test]
+fn faults_have_messages(rt: HostRuntime) -> Result<(), Fail> {
+    let alloc = rt.alloc();
+    let messages = [
+        (
+            StartFault::Alien.to_string(alloc)?,
+            "what should hold the keeper's changes belongs to something else",
+        ),
+        (
+            NextFault::Unreadable.to_string(alloc)?,
+            "the keeper's next change can't be read",
+        ),
+        (
+            PutFault::Full.to_string(alloc)?,
+            "the keeper has no room for the change",
+        ),
+    ];
+    for (message, wanted) in &messages {
+        assert_eq!(rt; message.as_str(), *wanted);
+    }
+    Ok(())
+}

@@ -3,6 +3,7 @@
 use super::{DECISION_0, FILE_0, FILE_1, FOUR_LINES, FOUR_REPLIES, RELATED};
 use crate::tests::lines::{Line, input_of};
 use crate::tests::playing::{Outlet, assert_replies, calls_of, owned_words, run_over, source_of};
+use library_core::LoadFail;
 use media_base::{BytesSource, Change, ChangeList, NoMemory, Status};
 use media_keeper::MemoryKeeper;
 use std::alloc::Global;
@@ -302,6 +303,14 @@ fn a_library_that_does_not_open_ends_the_session(rt: HostRuntime) -> Result<(), 
     let alloc = rt.alloc();
     let imported = ONE_IMPORT.assert_from(&rt, alloc, ChangeList::new(alloc))?;
     assert_unopened(&rt, alloc, imported.changes(), &UNOPENED)
+}
+
+#[test]
+fn a_library_that_does_not_open_says_why(rt: HostRuntime) -> Result<(), Fail> {
+    let message = LoadFail::BadStore(3).to_string(rt.alloc())?;
+    let wanted = "the kept change 3 can't be read, or isn't allowed at its place";
+    assert_eq!(rt; message.as_str(), wanted);
+    Ok(())
 }
 
 const REOPENED: Case = Case {
