@@ -15,7 +15,7 @@ use Rattle.media_tool.specs.Kept.{Keeps}
 use Rattle.media_tool.specs.Run.{SessionState}
 use Rattle.library_core.specs.declared.load_fail.LoadFail.{LoadFail}
 use Rattle.library_core.specs.declared.load_fail.LoadFail.TheVariants as fails
-use Rattle.media_tool.specs.Session.{AnswersNothing, HasOpened, HasSameRoom, Played, Plays, PlaysFrom, load_status}
+use Rattle.media_tool.specs.Session.{AnswersNothing, HasOpened, HasRun, HasSameRoom, Played, Plays, PlaysFrom, load_status}
 use Rattle.media_tool.specs.declared.play.TheConstants.{MAX_INPUT}
 use Rattle.media_tool.proofs.Feeds.{fed_nothing, fed_more, ends_early, ends_stopped, stopped_after}
 use Rattle.media_tool.proofs.Kept.{keeps_nothing}
@@ -37,6 +37,17 @@ load_unopened fails.StoreFault opened = opened
 load_unopened fails.NoMemory opened = opened
 load_unopened (fails.BadStore n) opened = opened
 load_unopened fails.AlienStore opened = opened
+
+pub ran_of : (status : Status) → HasOpened status → HasRun status
+ran_of statuses.Done opened = tt
+ran_of statuses.ReadFault opened = tt
+ran_of statuses.WriteFault opened = tt
+ran_of statuses.InputTooLong opened = tt
+ran_of statuses.Usage opened = opened
+ran_of statuses.NoMemory opened = tt
+ran_of statuses.StoreFault opened = opened
+ran_of (statuses.BadStore n) opened = opened
+ran_of statuses.AlienStore opened = opened
 
 module _ {K : Type 0} {tells : Telling K} where
   pub so_far_start : (o : SessionState K) (kept : List ℕ) (left taken : Option (List ℕ)) → kept ≡ [] → PlayedSoFar tells o MAX_INPUT o kept left left taken taken
@@ -139,6 +150,15 @@ module _ {K : Type 0} (tells : Telling K) where
   nothing_played statuses.StoreFault o taken unopened = nothing o taken
   nothing_played (statuses.BadStore n) o taken unopened = nothing o taken
   nothing_played statuses.AlienStore o taken unopened = nothing o taken
+
+  -- nothing was given or taken, for want of memory
+  pub plays_nothing : (o : SessionState K) (left taken : Option (List ℕ)) → PlaysFrom tells o o statuses.NoMemory left left taken taken
+  plays_nothing o left taken = record {
+    given = [];
+    gave = gave_none left;
+    limit = within_limit statuses.NoMemory [] (λ is. cc) (omega arith);
+    played = nothing o taken;
+  }
 
   -- nothing was given, answered or taken
   pub plays_unopened : (status : Status) (gives : Option Readings) (old new : K) (left taken : Option (List ℕ)) → (HasOpened status → ⊥) → tells.kept new ≡ tells.kept old → tells.faults old ≤ tells.faults new

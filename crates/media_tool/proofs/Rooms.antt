@@ -1,5 +1,5 @@
 -- What the replies of a run say of the keeper's room.
-use Rattle.std.proofs.Common.{◌≡◌, ◌⊎◌, ℕ, ◌+◌, List, [], ◌∷◌, ◌++◌, length, Option, Some, None, Result, Ok, Err, refl, sym, ap, ◌∙◌, subst, inl, inr, arith}
+use Rattle.std.proofs.Common.{◌≡◌, ℕ, ◌+◌, List, [], ◌∷◌, ◌++◌, length, Option, Some, None, Ok, Err, refl, sym, ap, ◌∙◌, subst, inl, arith}
 use Rattle.std.specs.Prelude.{IsSome}
 use Rattle.media_base.specs.declared.change.Change.{Change}
 use Rattle.media_base.specs.declared.command.Caller.TheVariants as callers
@@ -9,7 +9,6 @@ use Rattle.media_base.specs.declared.refusal.Refusal.TheVariants as refusals
 use Rattle.media_base.specs.Replying.{Reply}
 use Rattle.library_machine.specs.Step.{State, Outcome, refused, told, changed, Answered, by_step, no_memory, journal_full, not_kept, change_of, reply_of, step}
 use Rattle.library_core.specs.Done.{Telling, HasNoRoom, IsDone}
-use Rattle.command_text.specs.Reading.{line_command}
 use Rattle.media_tool.specs.Room.{NeverRefused, TellsRoom, ToldWithin, change_for, line_change, units_taken}
 use Rattle.media_tool.specs.Run.{LineAnswered, as_command, as_refused, as_no_memory, Run, SessionState}
 use Rattle.media_tool.proofs.Runs.{NeverReadAs}

@@ -20,7 +20,15 @@ pub record AnswersNothing {K : Type 0} (opening after : SessionState K) (given :
   pub same : after ≡ opening
   pub took : new ≡ old
 
--- The library opened: its session ends so, and no other.
+-- A session over an open library ends so, where it has no room for a line or a read too.
+abbrev pub HasRun : Status → Type 0
+HasRun statuses.Usage = ⊥
+HasRun statuses.StoreFault = ⊥
+HasRun (statuses.BadStore n) = ⊥
+HasRun statuses.AlienStore = ⊥
+HasRun status = Unit {0}
+
+-- The library opened and its lines were read, to one of these ends.
 abbrev pub HasOpened : Status → Type 0
 HasOpened statuses.Done = Unit {0}
 HasOpened statuses.ReadFault = Unit {0}
@@ -96,12 +104,10 @@ module _ {K : Type 0} (tells : Telling K) where
     pub after : SessionState K
     pub session : PlaysFrom opening after status left_old left_new taken_old taken_new
     pub last : new ≡ after.keeper
-
     pub own : HasOpened status → tells.alien old ≢ Some true
     pub opens : HasOpened status → (readings : Readings) → gives ≡ Some readings → opened readings ≡ Ok opening.machine.kept
     pub desks : HasOpened status → opening.machine.desks ≡ no_desks
     pub reopens : HasOpened status → (readings : Readings) → tells.kept new ≡ Some readings → opened readings ≡ Ok after.machine.kept
-
     pub kept_first : tells.kept opening.keeper ≡ tells.kept old
     pub faults_first : tells.faults old ≤ tells.faults opening.keeper
     pub room_first : HasOpened status → HasSameRoom old opening.keeper

@@ -10,8 +10,8 @@ mod session;
 mod standard;
 
 pub use laws::{
-    ended_lines_are_a_front, failures_are_counted, memory_keeps_all, one_cut, ready_keepers_keep_all,
-    room_is_told,
+    ended_lines_are_a_front, failures_are_counted, memory_keeps_all, one_cut,
+    ready_keepers_keep_all, room_is_told,
 };
 pub use play::MAX_INPUT;
 pub use program::run;

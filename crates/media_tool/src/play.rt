@@ -5,10 +5,9 @@ ghost use Rattle.media_types.specs.Cause.{HasCause, Rose, failed};
 ghost use Rattle.media_base.specs.Keeping.{Readings};
 ghost use Rattle.media_base.specs.Transfer.{GaveFront};
 ghost use Rattle.media_tool.specs.Run.{state_of, telling};
-ghost use Rattle.media_tool.specs.Session.{HasOpened, Plays, PlaysFrom, load_status};
+ghost use Rattle.media_tool.specs.Session.{HasOpened, HasRun, Plays, PlaysFrom, load_status};
 ghost use Rattle.media_tool.specs.declared.play.TheConstants.{PIECE};
 
-use crate::kept_line::KeptLine;
 use crate::session::Session;
 use library_core::{Library, LoadFail};
 use media_base::{Failed, Keeper, Sink, Source, Status, Steps};
@@ -75,6 +74,32 @@ fn play_pieces<S: Source, W: Sink, K: Keeper, L: Ledger>(
     }
 }
 
+// Answers the lines of the source, in a session that has answered none yet.
+fn play_session<S: Source, W: Sink, K: Keeper, L: Ledger>(
+    alloc: Global,
+    session: &mut Session<K>,
+    source: &mut S,
+    sink: &mut W,
+    steps: &mut Steps<L>,
+) -> Status
+    requires { session.old.line ≡ [] }
+    ensures plays { PlaysFrom (telling K.kept K.alien K.faults K.used K.units K.limit) (state_of session.old.library)
+        (state_of session.new.library)
+        result (S.left source.old) (S.left source.new) (W.taken sink.old) (W.taken sink.new) }
+    ensures done { result ≡ Status.Done → IsAtEnd (S.left source.new) }
+    ensures ran { HasRun result }
+    ensures unread { (HasOpened result → ⊥) → (source.new ≡ source.old) × (sink.new ≡ sink.old) }
+    ensures later_read { S.faults source.old ≤ S.faults source.new }
+    ensures later_write { W.faults sink.old ≤ W.faults sink.new }
+    ensures read { result ≡ Status.ReadFault → Rose (S.faults source.old) (S.faults source.new) }
+    ensures write { result ≡ Status.WriteFault → Rose (W.faults sink.old) (W.faults sink.new) }
+{
+    match vec![in alloc; 0; PIECE] {
+        Ok(mut chunk) => play_pieces(alloc, session, &mut chunk, source, sink, steps),
+        Err(_) => Status::NoMemory,
+    }
+}
+
 // How a session ends whose library doesn't open.
 fn status_of(fail: LoadFail) -> Status
     ensures { result ≡ load_status fail }
@@ -87,8 +112,7 @@ fn status_of(fail: LoadFail) -> Status
     }
 }
 
-/// Opens a library over the keeper and answers the lines of the source. The keeper comes back. What a session
-/// needs for the bytes of its lines is taken first.
+/// Opens a library over the keeper and answers the lines of the source. The keeper comes back.
 pub fn play<S: Source, W: Sink, K: Keeper, L: Ledger>(
     alloc: Global,
     source: &mut S,
@@ -113,18 +137,15 @@ pub fn play<S: Source, W: Sink, K: Keeper, L: Ledger>(
     ensures bad_own { (n : ℕ) → result.0 ≡ Status.BadStore n → K.alien keeper ≢ Some true }
     ensures alien { result.0 ≡ Status.AlienStore → K.alien keeper ≢ Some false }
 {
-    let Ok(mut chunk) = vec![in alloc; 0; PIECE] else {
-        return (Status::NoMemory, keeper);
-    };
-    let Ok(line) = KeptLine::new(alloc) else {
-        return (Status::NoMemory, keeper);
-    };
     match Library::load(alloc, keeper, steps) {
-        Ok(library) => {
-            let mut session = Session::new(library, line);
-            let status = play_pieces(alloc, &mut session, &mut chunk, source, sink, steps);
-            (status, session.library.release())
-        }
+        Ok(library) => match Session::new(alloc, library) {
+            Ok(session) => {
+                let mut session = session;
+                let status = play_session(alloc, &mut session, source, sink, steps);
+                (status, session.library.release())
+            }
+            Err(library) => (Status::NoMemory, library.release()),
+        },
         Err((fail, keeper)) => (status_of(fail), keeper),
     }
 }

@@ -1,4 +1,4 @@
-ghost use Rattle.std.specs.Prelude.{◌≡◌, ◌≤◌, ◌⊎◌, ℕ, List, [], ◌++◌, Option, OnOk, OnErr};
+ghost use Rattle.std.specs.Prelude.{◌≡◌, ◌≤◌, ◌⊎◌, ℕ, List, [], ◌++◌, Option, IfOk, IfErr, OnOk, OnErr};
 ghost use Rattle.media_types.specs.Cause.{HasCause, Rose, failed};
 ghost use Rattle.media_tool.specs.Feeding.{Fed, FedKept, LineSent, Stopped};
 ghost use Rattle.media_tool.specs.Kept.{Keeps, kept_of};
@@ -53,12 +53,16 @@ fn answer_line<W: Sink, K: Keeper, L: Ledger>(
 }
 
 impl<K: Keeper> Session<K> {
-    /// A session that begins in this line, of which nothing is kept yet.
-    pub fn new(library: Library<K>, line: KeptLine) -> Session<K>
-        ensures library { result.library ≡ library }
-        ensures line { result.line ≡ line }
+    /// A session that has been given nothing yet. The library comes back where there is no room for a line.
+    pub fn new(alloc: Global, library: Library<K>) -> Result<Session<K>, Library<K>>
+        ensures library { IfOk result (λ session. session.library ≡ library) }
+        ensures line { IfOk result (λ session. session.line ≡ []) }
+        ensures back { IfErr result (λ other. other ≡ library) }
     {
-        Session { library, line }
+        match KeptLine::new(alloc) {
+            Ok(line) => Ok(Session { library, line }),
+            Err(_) => Err(library),
+        }
     }
 
     /// Answers the lines that the piece ends, and keeps what comes behind them.

@@ -57,7 +57,7 @@ fn meaning_of(status: Status) -> &'static str {
         Status::ReadFault => "reading standard input failed",
         Status::WriteFault => "writing to standard output failed",
         Status::StoreFault => "what keeps the changes failed",
-        Status::NoMemory => "there was no memory to go on",
+        Status::NoMemory => "there was no memory to begin",
         Status::InputTooLong => "the input has more than 1,073,741,824 bytes",
         Status::BadStore(_) => "a kept change can't be read, or isn't allowed at its place",
         Status::AlienStore => "what should keep the changes belongs to something else",

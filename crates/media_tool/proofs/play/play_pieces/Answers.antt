@@ -10,14 +10,14 @@ loop-room-init g c = record {
   so_far = so_far_start (state_of c.args.session.now.library) c.args.session.now.line (g.S.Source.left c.args.source.now) (g.W.Sink.taken c.args.sink.now) c.requires.line;
 }
 
-pub returns-in-Err-clause-plays : goal.returns-in-Err-clause-plays
-returns-in-Err-clause-plays g c =
+pub returns-in-Err-feed-clause-plays : goal.returns-in-Err-feed-clause-plays
+returns-in-Err-feed-clause-plays g c =
     let opening = state_of c.args.session.now.library in
     let left = g.S.Source.left in
     let taken = g.W.Sink.taken in
     let count = c.in-Ok.count in
     let within : count ≤ c.loop-room.room = omega (arith, c.in-Ok.ensures.most, c.min.ensures) in
-    plays_write_fault opening c.loop-room.room count (state_of c.loop-room.session.library) (state_of c.feed.new.self.library) c.loop-room.session.line c.read_front.new.chunk (left c.args.source.now) (left c.loop-room.source) (left c.read_front.new.source) (taken c.args.sink.now) (taken c.loop-room.sink) (taken c.feed.new.sink) within c.loop-room.invariant.so_far c.in-Ok.ensures.reads c.in-Err.ensures.stopped
+    plays_write_fault opening c.loop-room.room count (state_of c.loop-room.session.library) (state_of c.feed.new.self.library) c.loop-room.session.line c.read_front.new.chunk (left c.args.source.now) (left c.loop-room.source) (left c.read_front.new.source) (taken c.args.sink.now) (taken c.loop-room.sink) (taken c.feed.new.sink) within c.loop-room.invariant.so_far c.in-Ok.ensures.reads c.in-Err-feed.ensures.stopped
 
 pub loop-room-preserved : goal.loop-room-preserved
 loop-room-preserved g c =

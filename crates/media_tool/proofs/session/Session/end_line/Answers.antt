@@ -1,4 +1,4 @@
-use Rattle.std.proofs.Common.{◌≡◌, ◌≢◌, List, ℕ, [], ◌++◌, refl, sym, ap}
+use Rattle.std.proofs.Common.{◌≡◌, ◌≢◌, List, ℕ, ◌++◌, refl, sym, ap}
 use Rattle.media_tool.specs.Run.{state_of}
 use Rattle.media_tool.proofs.Cuts.{AllByRecursion-append}
 use Rattle.media_tool.proofs.Feeds.{on_err, sent_fed, sent_stopped}
