@@ -41,11 +41,11 @@ module _ {K : Type 0} (tells : Telling K) where
       → IsDone tells s.machine s.keeper (step s.machine callers.Console command) reply t.machine t.keeper → TellsRoom tells s line reply t
   command_tells s t command reply line asked here is done = record {
     full = λ said.
-      let wanted = full_wants_change s.machine t.machine (step s.machine callers.Console command) reply done.answered said in
-      (wanted.0, here ∙ sym is ∙ wanted.1, done.full said wanted.0 wanted.1);
+        let wanted = full_wants_change s.machine t.machine (step s.machine callers.Console command) reply done.answered said in
+        (wanted.0, here ∙ sym is ∙ wanted.1, done.full said wanted.0 wanted.1);
     no_room = λ change its none. done.no_room change (is ∙ sym here ∙ its) none;
     used = subst (λ (change : Option Change). tells.used t.keeper ≡ tells.used s.keeper + units_taken (tells.units s.keeper) change reply) (sym here)
-      (used_by s.machine t.machine s.keeper t.keeper (step s.machine callers.Console command) asked reply is done);
+        (used_by s.machine t.machine s.keeper t.keeper (step s.machine callers.Console command) asked reply is done);
     same_limit = done.same_limit;
     same_units = done.same_units;
   }

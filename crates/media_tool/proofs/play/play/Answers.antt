@@ -19,7 +19,7 @@ returns-in-Ok-new-clause-plays g c =
     let source = c.play_session-status.new.source in
     let sink = c.play_session-status.new.sink in
     let session = subst (λ (first : LibraryView g.row.K.Denot). PlaysFrom tells (state_of first) (state_of after) status (left c.args.source.now) (left source) (taken c.args.sink.now) (taken sink))
-        c.in-Ok-new.ensures.library c.play_session-status.ensures.plays in
+    c.in-Ok-new.ensures.library c.play_session-status.ensures.plays in
     let on = plays_goes_on tells status (state_of library) (state_of after) (left c.args.source.now) (left source) (taken c.args.sink.now) (taken sink) session in
     record {
       opening = state_of library;
