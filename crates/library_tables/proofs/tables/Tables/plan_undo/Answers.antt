@@ -23,17 +23,17 @@ pub plan_refold-requires-clause-few_decisions : goal.plan_refold-requires-clause
 plan_refold-requires-clause-few_decisions g c =
     let few = c.laws.ensures.few_stand (undone_at c.args.number.0 c.self.inside.book.rows) in
     let same = c.laws.ensures.undoing_keeps_length c.args.number.0 c.self.inside.book.rows in
-    rw c.in_ok-standing.ensures (omega (arith, few, same, c.self.invariant.fits.few_decisions))
+    rw c.in_ok-standing.ensures.decisions (omega (arith, few, same, c.self.invariant.fits.few_decisions))
 
 pub plan_refold-requires-clause-two : goal.plan_refold-requires-clause-two
 plan_refold-requires-clause-two g c =
-    rw c.in_ok-standing.ensures
+    rw c.in_ok-standing.ensures.decisions
     (left_of_two c.laws.ensures.all_recorded c.laws.ensures.undoing_keeps_decisions c.args.number.0 c.self.inside.book.rows c.self.invariant.fits.of_two)
 
 pub plan_refold-requires-clause-within : goal.plan_refold-requires-clause-within
 plan_refold-requires-clause-within g c =
     let m = length c.self.inside.files.rows in
-    rw (c.in_ok-files.ensures, c.len-2.ensures.rows, c.in_ok-standing.ensures)
+    rw (c.in_ok-files.ensures, c.len-2.ensures.rows, c.in_ok-standing.ensures.decisions)
     (all_within m _ (left_among c.laws.ensures.all_recorded c.laws.ensures.undoing_keeps_decisions c.args.number.0 m c.self.inside.book.rows c.self.invariant.fits.among))
 
 pub plan_refold-requires-clause-closed : goal.plan_refold-requires-clause-closed
@@ -53,7 +53,7 @@ plan_moved-requires-clause-sound_after g c =
     let among = c.self.invariant.fits.among in
     let anew : relations_after c.in_ok-groups.groups c.plan_refold.new.self ≡ relations (standing (undone_at n.0 rows)) =
     c.in_ok-groups.ensures.after
-    ∙ rw (c.in_ok-files.ensures, c.len-2.ensures.rows, c.in_ok-standing.ensures, c.self.invariant.related)
+    ∙ rw (c.in_ok-files.ensures, c.len-2.ensures.rows, c.in_ok-standing.ensures.decisions, c.self.invariant.related)
     (all_anew c.laws-2.ensures.others_stay m _ _ (standing_among c.laws.ensures.all_recorded m rows among) (left_among c.laws.ensures.all_recorded c.laws.ensures.undoing_keeps_decisions n.0 m rows among)) in
     rw anew (c.laws-2.ensures.sound _ (left_of_two c.laws.ensures.all_recorded c.laws.ensures.undoing_keeps_decisions n.0 rows c.self.invariant.fits.of_two))
 
@@ -66,7 +66,7 @@ returns-clause-prepared g c =
     let new : TablesView = record { files = c.self.inside.files; book = c.self.inside.book; groups = c.plan_refold.new.self; tree = c.self.inside.tree; pairs = c.plan_moved.new.self; work = c.self.inside.upkeep; distance = c.self.inside.distance } in
     let anew : relations_after c.in_ok-groups.groups c.plan_refold.new.self ≡ relations (standing (undone_at n.0 rows)) =
     c.in_ok-groups.ensures.after
-    ∙ rw (c.in_ok-files.ensures, c.len-2.ensures.rows, c.in_ok-standing.ensures, c.self.invariant.related)
+    ∙ rw (c.in_ok-files.ensures, c.len-2.ensures.rows, c.in_ok-standing.ensures.decisions, c.self.invariant.related)
     (all_anew c.laws-2.ensures.others_stay m _ _ (standing_among c.laws.ensures.all_recorded m rows among) (left_among c.laws.ensures.all_recorded c.laws.ensures.undoing_keeps_decisions n.0 m rows among)) in
     undo_prepared c.records_stay_fit.ensures.after_a_change new (record { number = n; groups = c.in_ok-groups.groups; pairs = c.in_ok-pairs.pairs }) c.row.result c.self.invariant.fits
     c.row.ensures.row c.if-row.false c.in_ok-groups.ensures.fits anew
