@@ -28,17 +28,17 @@ pub plan_refold-requires-clause-few_decisions : goal.plan_refold-requires-clause
 plan_refold-requires-clause-few_decisions g c =
     let few = c.laws.ensures.few_stand (undone_at c.args.number.0 c.self.inside.book.rows) in
     let same = c.laws.ensures.undoing_keeps_length c.args.number.0 c.self.inside.book.rows in
-    rw c.in_ok-standing.ensures (omega (arith, few, same, c.self.invariant.fits.few_decisions))
+    rw c.in_ok-standing.ensures.decisions (omega (arith, few, same, c.self.invariant.fits.few_decisions))
 
 pub plan_refold-requires-clause-two : goal.plan_refold-requires-clause-two
 plan_refold-requires-clause-two g c =
-    rw c.in_ok-standing.ensures
+    rw c.in_ok-standing.ensures.decisions
     (left_of_two c.laws.ensures.all_recorded c.laws.ensures.undoing_keeps_decisions c.args.number.0 c.self.inside.book.rows c.self.invariant.fits.of_two)
 
 pub plan_refold-requires-clause-within : goal.plan_refold-requires-clause-within
 plan_refold-requires-clause-within g c =
     let m = length c.self.inside.files.rows in
-    rw (c.in_ok-files.ensures, c.len-2.ensures.rows, c.in_ok-standing.ensures)
+    rw (c.in_ok-files.ensures, c.len-2.ensures.rows, c.in_ok-standing.ensures.decisions)
     (all_within m _ (left_among c.laws.ensures.all_recorded c.laws.ensures.undoing_keeps_decisions c.args.number.0 m c.self.inside.book.rows c.self.invariant.fits.among))
 
 pub plan_refold-requires-clause-closed : goal.plan_refold-requires-clause-closed
@@ -64,7 +64,7 @@ plan_moved-requires-clause-sound_after g c =
     let among = c.self.invariant.fits.among in
     let anew : relations_after c.in_ok-groups.groups c.plan_refold.new.self ≡ relations (standing (undone_at n.0 rows)) =
     c.in_ok-groups.ensures.after
-    ∙ rw (c.in_ok-files.ensures, c.len-2.ensures.rows, c.in_ok-standing.ensures, c.self.invariant.related)
+    ∙ rw (c.in_ok-files.ensures, c.len-2.ensures.rows, c.in_ok-standing.ensures.decisions, c.self.invariant.related)
     (all_anew c.laws-2.ensures.others_stay m _ _ (standing_among c.laws.ensures.all_recorded m rows among) (left_among c.laws.ensures.all_recorded c.laws.ensures.undoing_keeps_decisions n.0 m rows among)) in
     rw anew (c.laws-2.ensures.sound _ (left_of_two c.laws.ensures.all_recorded c.laws.ensures.undoing_keeps_decisions n.0 rows c.self.invariant.fits.of_two))
 
@@ -81,7 +81,7 @@ returns-clause-prepared g c =
     let done = prepared.Change (plans.Undo n c.in_ok-groups.groups c.in_ok-pairs.pairs) (changes.Undo n) (replies.Undone n) in
     let anew : relations_after c.in_ok-groups.groups c.plan_refold.new.self ≡ relations (standing (undone_at n.0 rows)) =
     c.in_ok-groups.ensures.after
-    ∙ rw (c.in_ok-files.ensures, c.len-2.ensures.rows, c.in_ok-standing.ensures, c.self.invariant.related)
+    ∙ rw (c.in_ok-files.ensures, c.len-2.ensures.rows, c.in_ok-standing.ensures.decisions, c.self.invariant.related)
     (all_anew c.laws-2.ensures.others_stay m _ _ (standing_among c.laws.ensures.all_recorded m rows among) (left_among c.laws.ensures.all_recorded c.laws.ensures.undoing_keeps_decisions n.0 m rows among)) in
     subst (λ (t : TablesView). IsPrepared (undo (records_of t) n) new done) c.self.view_is
     (undo_prepared _ c.plan_refold.new.self c.plan_moved.new.self n c.row.result c.in_ok-groups.groups c.in_ok-pairs.pairs c.records_stay_fit.ensures.after_a_step c.self.invariant
