@@ -81,6 +81,14 @@ def searches(count):
     return '{"do":"search_job","n":1024}\n' * (count // 1024 + 1)
 
 
+def deletions(files):
+    """Every tenth file is deleted and comes back."""
+    lines = []
+    for number in range(0, files, 10):
+        lines.append('{"do":"delete","file":%d}\n{"do":"undelete","file":%d}\n' % (number, number))
+    return "".join(lines)
+
+
 def decisions(files, count):
     """Better decisions between neighbours: the groups are pairs, and every second round has no effect."""
     lines = []
@@ -163,6 +171,10 @@ def main():
                 with_hashes(clustered_words(SEARCHED)) + searches(SEARCHED),
                 SEARCHED + SEARCHED // 1024 + 1,
             ),
+            "the same, and deletions that are taken back": (
+                with_hashes(clustered_words(SEARCHED)) + searches(SEARCHED) + deletions(SEARCHED),
+                SEARCHED + SEARCHED // 1024 + 1 + 2 * (SEARCHED // 10),
+            ),
             "decisions": (imports(decided) + decisions(decided, decided), 2 * decided),
             "twice the files and decisions": (
                 imports(2 * decided) + decisions(2 * decided, 2 * decided),
@@ -178,6 +190,11 @@ def main():
             times = {name: seconds(command, path) for name, command in commands.items()}
             taken[title] = times["medialib"]
             report(title, lines, times)
+        more = (
+            taken["the same, and deletions that are taken back"]
+            - taken["imports with hashes in clusters, and their search jobs"]
+        )
+        print("a deletion or its taking back takes %.0f us" % (more / (2 * (SEARCHED // 10)) * 1e6))
         print("twice the imports take %.2f times as long" % (taken["twice the imports"] / taken["imports"]))
         print(
             "twice the files and decisions take %.2f times as long"
