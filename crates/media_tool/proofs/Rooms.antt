@@ -30,6 +30,11 @@ full_wants_change s new o reply (no_memory want same) is = absurd cc
 full_wants_change s new o reply (journal_full some full same) is = some_change (change_of o) some
 full_wants_change s new o reply (not_kept some kept same) is = absurd cc
 
+-- a refusal takes none
+none_taken : (units : Change → ℕ) (asked : Option Change) (why : Refusal) → units_taken units asked (Err why) ≡ 0
+none_taken units (Some change) why = refl
+none_taken units None why = refl
+
 module _ {K : Type 0} (tells : Telling K) where
   used_by : (s new : State) (old after : K) (o : Outcome) (asked : Option Change) (reply : Reply) → change_of o ≡ asked → IsDone tells s old o reply new after
       → tells.used after ≡ tells.used old + units_taken (tells.units old) asked reply
@@ -49,10 +54,6 @@ module _ {K : Type 0} (tells : Telling K) where
     same_limit = done.same_limit;
     same_units = done.same_units;
   }
-
-  none_taken : (units : Change → ℕ) (asked : Option Change) (why : Refusal) → units_taken units asked (Err why) ≡ 0
-  none_taken units (Some change) why = refl
-  none_taken units None why = refl
 
   -- a line that is refused for another reason, and changes nothing
   refusal_tells : (s t : SessionState K) (line : List ℕ) (why : Refusal) (reply : Reply) → reply ≡ Err why → t ≡ s → (why ≡ refusals.JournalFull → ⊥)
