@@ -71,7 +71,7 @@ fn place_later<L: Ledger>(
     ensures { tree.old.spare ≤ tree.new.spare + 1 }
 {
     assert!(rt; tree.len() < MAX_WORDS);
-    assert_new(rt, tree, plan.word);
+    assert_new(rt, tree, plan.word, steps);
     assert_eq!(rt; place(rt, tree, plan, steps), HashNo(number));
 }
 
