@@ -129,8 +129,12 @@ fn faulty_counts_are_refused(rt: HostRuntime) -> Result<(), Fail> {
 fn counts_are_read(rt: HostRuntime) -> Result<(), Fail> {
     let front = "{\"do\":\"pair_count\",\"at_most\":";
     for (number, bits) in &[("0", 0), ("8", 8), ("16", 16)] {
-        match read_pieces(rt.alloc(), front, number, ",\"after_j\":null,\"n\":0}")? {
-            Command::Ask(Query::PairCount(distance)) => assert_eq!(rt; distance.bits(), *bits),
+        let read = read_pieces(rt.alloc(), front, number, ",\"after_j\":null,\"n\":0}")?;
+        let Command::Ask(query) = read else {
+            panic!(rt; "no question: {number}")
+        };
+        match query {
+            Query::PairCount(distance) => assert_eq!(rt; distance.bits(), *bits),
             _ => panic!(rt; "no count: {number}"),
         }
     }

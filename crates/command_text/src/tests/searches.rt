@@ -77,8 +77,11 @@ fn faulty_searches_of_files_are_refused(rt: HostRuntime) -> Result<(), Fail> {
 fn distances_are_read(rt: HostRuntime) -> Result<(), Fail> {
     let end = ",\"do\":\"search_distance\"}";
     for (number, bits) in &[("0", 0), ("8", 8), ("16", 16)] {
-        match read_pieces(rt.alloc(), "{\"distance\":", number, end)? {
-            Command::Do(Change::Distance(distance)) => assert_eq!(rt; distance.bits(), *bits),
+        let Command::Do(change) = read_pieces(rt.alloc(), "{\"distance\":", number, end)? else {
+            panic!(rt; "no change: {number}")
+        };
+        match change {
+            Change::Distance(distance) => assert_eq!(rt; distance.bits(), *bits),
             _ => panic!(rt; "no distance: {number}"),
         }
     }
@@ -89,10 +92,11 @@ fn distances_are_read(rt: HostRuntime) -> Result<(), Fail> {
 fn search_jobs_are_read(rt: HostRuntime) -> Result<(), Fail> {
     let end = ",\"do\":\"search_job\",\"files\":7}";
     for (number, want) in &[("1", 1), ("2", 2), ("1024", 1_024)] {
-        match read_pieces(rt.alloc(), "{\"n\":", number, end)? {
-            Command::Run(Job::Search(n)) => assert_eq!(rt; n.number(), *want),
-            _ => panic!(rt; "no job: {number}"),
-        }
+        let Command::Run(job) = read_pieces(rt.alloc(), "{\"n\":", number, end)? else {
+            panic!(rt; "no job: {number}")
+        };
+        let Job::Search(n) = job;
+        assert_eq!(rt; n.number(), *want);
     }
     Ok(())
 }
