@@ -42,7 +42,7 @@ fn pair_of(seed: u64) -> (u32, u32) {
     z = (z ^ (z >> 30)).wrapping_mul(0xbf58_476d_1ce4_e5b9);
     z = (z ^ (z >> 27)).wrapping_mul(0x94d0_49bb_1331_11eb);
     z ^= z >> 31;
-    ((z / 0x1_0000_0000) as u32, (z % 0x1_0000_0000) as u32)
+    (((z / 0x1_0000_0000) % 0x1_0000_0000) as u32, (z % 0x1_0000_0000) as u32)
 }
 
 fn insert_all(set: &mut PairSet, rows: u64) -> Result<(), NoMemory> {
