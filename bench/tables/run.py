@@ -25,7 +25,7 @@ MAIN = r"""//! Times a table of pairs, and a sorted vector where there are few.
 ghost use Rattle.std.specs.Prelude.{◌≡◌, ◌<◌};
 
 use media_types::{NoMemory, Steps};
-use spare_tables::PairSet;
+use spare_tables::{KeyMap, PairSet};
 use std::alloc::Global;
 use std::io;
 use std::marker::Brand;
@@ -34,6 +34,7 @@ use std::thread::Threads;
 use std::time::CpuClock;
 
 const ROWS: u64 = @ROWS@;
+const WIDE_ROWS: u64 = 90_000;
 const FEW: u64 = 100;
 const TIMES: u64 = 10_000;
 
@@ -42,7 +43,7 @@ fn pair_of(seed: u64) -> (u32, u32) {
     z = (z ^ (z >> 30)).wrapping_mul(0xbf58_476d_1ce4_e5b9);
     z = (z ^ (z >> 27)).wrapping_mul(0x94d0_49bb_1331_11eb);
     z ^= z >> 31;
-    ((z / 0x1_0000_0000) as u32, (z % 0x1_0000_0000) as u32)
+    (((z / 0x1_0000_0000) % 0x1_0000_0000) as u32, (z % 0x1_0000_0000) as u32)
 }
 
 fn insert_all(set: &mut PairSet, rows: u64) -> Result<(), NoMemory> {
@@ -151,6 +152,28 @@ fn few_in_vector(rows: &mut Vec<(u32, u32)>) -> u64 {
     done
 }
 
+// Rows as wide as those of tallies.
+fn fill_wide(map: &mut KeyMap<(u32, u32), [u32; 17]>) -> Result<(), NoMemory> {
+    for seed in 0..WIDE_ROWS {
+        map.reserve(1)?;
+        map.insert(pair_of(seed), [1; 17]);
+    }
+    Ok(())
+}
+
+// Takes each row out and puts it back.
+fn turn_wide(map: &mut KeyMap<(u32, u32), [u32; 17]>) -> Result<u64, NoMemory> {
+    let mut taken = 0u64;
+    for seed in 0..WIDE_ROWS {
+        if map.remove(pair_of(seed)) {
+            taken = taken.wrapping_add(1);
+        }
+        map.reserve(1)?;
+        map.insert(pair_of(seed), [1; 17]);
+    }
+    Ok(taken)
+}
+
 fn tell(rt: &(impl Print + CpuClock), word: &str, start: u128, calls: u64, sum: u64) -> io::Result<u128> {
     let end = rt.process_cpu_time()?.as_nanos();
     println!(rt; "{word} {} {calls} {sum}", end.saturating_sub(start))?;
@@ -183,6 +206,11 @@ fn run<L: Ledger>(
     let mut rows = Vec::new(alloc);
     let done = few_in_vector(&mut rows);
     let _ = tell(rt, "vector", start, 3 * FEW * TIMES, done)?;
+    let mut wide = KeyMap::new(alloc);
+    let _ = fill_wide(&mut wide);
+    let start = rt.process_cpu_time()?.as_nanos();
+    let turned = turn_wide(&mut wide).unwrap_or(0);
+    let _ = tell(rt, "wide", start, WIDE_ROWS, turned)?;
     Ok(())
 }
 
@@ -283,6 +311,7 @@ def main():
     if tables:
         few, vector = least(tables, "few"), least(tables, "vector")
         print(f"100 rows: proved {few:.1f} ns a call  sorted vector {vector:.1f} ns  proved/vector {few / vector:.2f}")
+        print(f"90,000 rows of 76 bytes: out and back in {least(tables, 'wide') / 1e3:.2f} us")
 
 
 if __name__ == "__main__":
