@@ -40,11 +40,11 @@ no_records = record {
   mappings = [];
 }
 
--- the service, the tag and the file of a mapping are among so many
-pub record IsMappedAmong (services tags files : ℕ) (row : mapped.Row) : Type 0 where
-  pub service : row.0.0 < services
-  pub tag : row.0.1 < tags
-  pub file : row.0.2 < files
+-- the service, the tag and the file are among so many
+pub record AreThere (services tags files s t f : ℕ) : Type 0 where
+  pub service : s < services
+  pub tag : t < tags
+  pub file : f < files
 
 -- What tags, services and mappings of so many files are: within the limits, with no two tags of one text, and each
 -- mapping is of a service, a tag and a file that are there.
@@ -52,9 +52,9 @@ pub record TagsFit (files : ℕ) (tags : List (List ℕ)) (services : List Order
   pub few_tags : length tags ≤ MAX_TAGS
   pub few_services : length services ≤ MAX_SERVICES
   pub few_mappings : length mappings ≤ MAX_MAPPINGS
-  pub distinct : AreDistinctTags tags
-  pub sorted : mapped.AreSorted mappings
-  pub among : All (IsMappedAmong (length services) (length tags) files) mappings
+  pub distinct : AreDistinctTexts tags
+  pub ascend : mapped.Ascend mappings
+  pub there : (s t f : ℕ) → IsSome (mapped.state_of mappings s t f) → AreThere (length services) (length tags) files s t f
 
 -- What records of every session are: within the limits, with no two files of one SHA-256, and each
 -- decision is of two different files that are there.

@@ -1,0 +1,6 @@
+pub mod Mapped
+pub mod MappedLaws
+pub mod Numbering
+pub mod NumberingLaws
+pub mod PickedLaws
+pub mod Serving

@@ -1,0 +1,2 @@
+//! Tags, services and mappings.
+#![tactic(auto)]
