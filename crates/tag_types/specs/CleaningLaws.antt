@@ -217,8 +217,8 @@ as_tag-Some bytes tag is = by (nat_le 1 (length bytes)) (nat_le (length bytes) M
 pub as_tag-fits : (bytes : List ℕ) → 1 ≤ length bytes → length bytes ≤ MAX_TAG_BYTES → as_tag bytes ≡ Some bytes
 as_tag-fits bytes some few = grind (arith, nat_tests)
 
-pub as_tag-empty : as_tag [] ≡ None
-as_tag-empty = refl
+pub as_tag-few : (bytes : List ℕ) → length bytes ≡ 0 → as_tag bytes ≡ None
+as_tag-few bytes none = grind (arith, nat_tests)
 
 pub as_tag-long : (bytes : List ℕ) → MAX_TAG_BYTES < length bytes → as_tag bytes ≡ None
 as_tag-long bytes long = grind (arith, nat_tests)
