@@ -29,7 +29,7 @@ use Rattle.library_machine.specs.Searches.{after_search, is_empty, risen}
 use Rattle.library_machine.specs.Tagging.{with_mapping, with_orders, with_service}
 use Rattle.library_machine.proofs.Below.{NotFound, OneMore, NearOneMore, MarkSameLength, MarkStaysDistinct, MarkSameNear, MarkChanges, SameLength, StayDistinct, NoneRises, SameDecisions, SameRecorded}
 use Rattle.library_machine.proofs.Meeting.{all_met, means, none_there, one_file}
-use Rattle.library_machine.proofs.Tagged.{fit_more_files, service_fit, orders_fit, orders_other, mapping_fit, mapping_other}
+use Rattle.library_machine.proofs.Tagged.{fit_more_files, service_fit, orders_fit, orders_other, mapping_fits, mapping_other}
 
 pub record IsGood (r : Records) (c : Change) : Type 0 where
   pub fits : Fits r → Fits (effect r c)
@@ -240,7 +240,7 @@ good laws r (changes.Orders service orders) met fresh = record {
   other = orders_other r service orders (met.0 0 service (omega arith)) fresh;
 }
 good laws r (changes.Mapping m) met fresh = record {
-  fits = λ fits. with_tags r (with_mapping r m) refl refl refl (mapping_fit r m m.state refl met.0 met.1.0 met.1.1 fits.tags) fits;
+  fits = λ fits. with_tags r (with_mapping r m) refl refl refl (mapping_fits r m met.0 met.1.0 met.1.1 fits.tags) fits;
   other = mapping_other r m fresh;
 }
 

@@ -1,9 +1,10 @@
 -- What a library records, and nothing else. All that it tells is computed from these lists.
-use Rattle.std.specs.Prelude.{◌≡◌, ◌<◌, ◌≤◌, ℕ, Bool, List, [], length, map, Some, slice_get}
+use Rattle.std.specs.Prelude.{◌≡◌, ◌<◌, ◌≤◌, ℕ, Bool, List, [], length, map, Some, IsSome, Contains, slice_get}
 use Rattle.media_types.specs.declared.hash.Sha.{Sha}
 use Rattle.media_types.specs.declared.limits.TheConstants.{FIRST_DISTANCE, MAX_DECISIONS, MAX_FILES, MAX_NEAR}
 use Rattle.media_types.specs.declared.numbers.DecisionNo.{DecisionNo}
 use Rattle.media_types.specs.declared.numbers.FileNo.{FileNo}
+use Rattle.media_types.specs.declared.numbers.ServiceNo.{ServiceNo}
 use Rattle.file_records.specs.declared.file_row.FileRow.{FileRow}
 use Rattle.file_records.specs.Lookup.{AreDistinct, IsUnknown}
 use Rattle.file_records.specs.Near.{near_pairs}
@@ -14,6 +15,7 @@ use Rattle.relation_groups.specs.Relations.{AreAmong}
 use Rattle.tag_types.specs.declared.limits.TheConstants.{MAX_MAPPINGS, MAX_SERVICES, MAX_TAGS}
 use Rattle.tag_types.specs.declared.orders.Orders.{Orders}
 use Rattle.tag_store.specs.Mapped as mapped
+use Rattle.tag_store.specs.Numbering.{AreDistinctTexts}
 use Rattle.tag_store.specs.Serving.{first_services}
 
 pub record Records : Type 0 where

@@ -1,5 +1,6 @@
 -- Tags, services and mappings among the records.
-use Rattle.std.specs.Prelude.{ℕ, Bool, true, false, ◌==◌, ◌&&◌, List, [], ◌∷◌, ◌++◌, map, filter, unwrap_or, slice_get, slice_index_or, slice_set, length, Option, Some, None, option_and_then}
+use Rattle.std.specs.Prelude.{ℕ, Bool, true, false, not, ◌==◌, ◌&&◌, List, [], ◌∷◌, ◌++◌, map, filter, slice_get, slice_index_or, slice_set, length, Option, Some, None, option_and_then}
+use Rattle.std.specs.Option.{option_map_or}
 use Rattle.media_types.specs.declared.numbers.ServiceNo.{ServiceNo}
 use Rattle.media_types.specs.declared.numbers.FileNo.{FileNo}
 use Rattle.media_types.specs.declared.numbers.TagNo.{TagNo}
@@ -9,8 +10,8 @@ use Rattle.media_base.specs.declared.reply.Answer.TheVariants as answers
 use Rattle.tag_types.specs.declared.map_state.MapState.{MapState}
 use Rattle.tag_types.specs.declared.map_state.MapState.TheVariants as states
 use Rattle.tag_types.specs.declared.orders.Orders.{Orders}
-use Rattle.tag_store.specs.Mapped.{Row, state_of, tags_of_file, with_state}
-use Rattle.tag_store.specs.Numbering.{number_of, with_tag}
+use Rattle.tag_store.specs.Mapped.{state_of, tags_of_file, with_state}
+use Rattle.tag_store.specs.Numbering.{number_of, number_or_next, with_tag}
 use Rattle.tag_store.specs.Serving.{own_orders}
 use Rattle.library_machine.specs.Records.{Records}
 
@@ -22,7 +23,7 @@ mapped r service text file = option_and_then (λ tag. state_of r.mappings servic
 
 -- the number that the text has, or would have
 abbrev pub numbered : Records → List ℕ → TagNo
-numbered r text = record { 0 = unwrap_or (number_of text r.tags) (length r.tags) }
+numbered r text = record { 0 = number_or_next text r.tags }
 
 abbrev pub is_state : MapState → MapState → Bool
 is_state states.Current states.Current = true
@@ -54,7 +55,7 @@ mapping_told r m None = answers.Changed (not (is_mapped_so r m))
 -- the tags of the file in the service whose mapping has this state, in the order of their numbers
 abbrev pub tags_in : Records → ServiceNo → FileNo → MapState → List (List ℕ)
 tags_in r service file state =
-    map (λ tag. slice_index_or r.tags tag.0 []) (filter (λ tag. is_state tag.1 state) (tags_of_file r.mappings service.0 file.0))
+    map (λ tag. slice_index_or r.tags tag.0.0 []) (filter (λ tag. is_state tag.1 state) (tags_of_file r.mappings service.0 file.0))
 
 abbrev pub mappings_told : Records → ServiceNo → FileNo → Answer
 mappings_told r service file = answers.Mappings (record {
