@@ -1,0 +1,7 @@
+pub mod Lasts
+pub mod Mapped
+pub mod MappedLaws
+pub mod Mirrored
+pub mod Numbering
+pub mod PickedLaws
+pub mod Serving
