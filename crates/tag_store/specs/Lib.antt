@@ -1,5 +1,7 @@
+pub mod Lasts
 pub mod Mapped
 pub mod MappedLaws
+pub mod Mirrored
 pub mod Numbering
 pub mod NumberingLaws
 pub mod PickedLaws
