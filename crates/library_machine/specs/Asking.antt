@@ -15,7 +15,7 @@ use Rattle.library_machine.specs.Guards.{guarded}
 use Rattle.library_machine.specs.Needs.{Need, file_there, service_there, is_met, unmet}
 use Rattle.library_machine.specs.Records.{Records}
 use Rattle.library_machine.specs.Searches.{search_queue}
-use Rattle.library_machine.specs.Tagging.{mappings_told}
+use Rattle.library_machine.specs.Tagging.{file_mappings}
 
 -- the relations that the standing decisions make
 abbrev pub related : Records → groups.Relations
@@ -39,7 +39,7 @@ answer r (queries.Relations f) = answers.Relations (groups.relations_at (length 
 answer r (queries.Pairs page) = answers.Pairs (map named (page_of page.after page.n page.at_most (potential_pairs r)))
 answer r (queries.PairCount m) = answers.PairCount (length (within m (potential_pairs r)))
 answer r queries.Queues = answers.Queues (record { search = length (search_queue r); display = 0 })
-answer r (queries.Mappings service file) = mappings_told r service file
+answer r (queries.Mappings service file) = answers.Mappings (file_mappings r service file)
 
 -- the answer, or why there is none
 abbrev pub asked : Records → Query → Result Answer Unmet

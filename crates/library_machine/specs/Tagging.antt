@@ -7,12 +7,13 @@ use Rattle.media_types.specs.declared.numbers.TagNo.{TagNo}
 use Rattle.media_base.specs.declared.change.Mapping.{Mapping}
 use Rattle.media_base.specs.declared.reply.Answer.{Answer}
 use Rattle.media_base.specs.declared.reply.Answer.TheVariants as answers
+use Rattle.media_base.specs.declared.reply.FileMappings.{FileMappings}
 use Rattle.tag_types.specs.declared.map_state.MapState.{MapState}
 use Rattle.tag_types.specs.declared.map_state.MapState.TheVariants as states
 use Rattle.tag_types.specs.declared.orders.Orders.{Orders}
 use Rattle.tag_store.specs.Mapped.{state_of, tags_of_file, with_state}
 use Rattle.tag_store.specs.Numbering.{number_of, number_or_next, with_tag}
-use Rattle.tag_store.specs.Serving.{own_orders}
+use Rattle.tag_store.specs.Serving.{next_orders}
 use Rattle.library_machine.specs.Records.{Records}
 
 -- ---- mappings
@@ -57,12 +58,13 @@ abbrev pub tags_in : Records → ServiceNo → FileNo → MapState → List (Lis
 tags_in r service file state =
     map (λ tag. slice_index_or r.tags tag.0.0 []) (filter (λ tag. is_state tag.1 state) (tags_of_file r.mappings service.0 file.0))
 
-abbrev pub mappings_told : Records → ServiceNo → FileNo → Answer
-mappings_told r service file = answers.Mappings (record {
+-- the file's tags in the service, by the state of their mapping
+abbrev pub file_mappings : Records → ServiceNo → FileNo → FileMappings
+file_mappings r service file = record {
   current = tags_in r service file states.Current;
   pending = tags_in r service file states.Pending;
   deleted = tags_in r service file states.Deleted;
-})
+}
 
 -- ---- services
 
@@ -71,7 +73,7 @@ next_service r = record { 0 = length r.services }
 
 -- a new service takes its own pairs alone
 abbrev pub with_service : Records → Records
-with_service r = record r { services = r.services ++ own_orders (next_service r) ∷ [] }
+with_service r = record r { services = r.services ++ next_orders r.services ∷ [] }
 
 abbrev pub with_orders : Records → ServiceNo → Orders → Records
 with_orders r service orders = record r { services = slice_set r.services service.0 orders }

@@ -3,7 +3,11 @@
 
 mod last_walk;
 mod mappings;
+mod services;
+mod tags;
 mod walks;
 
 pub use mappings::Mappings;
+pub use services::Services;
+pub use tags::Tags;
 pub use walks::{FileWalk, TagWalk};
