@@ -27,8 +27,9 @@ search_meets r tree s = length s.files + work tree r.files s.distance (risen r s
 abbrev pub live_reads : Records → FileNo → ℕ
 live_reads r file = 8 * (2 + length (filter (λ row. has_file file.0 row.0) (near_pairs r.files)))
 
--- for a page of n pairs the heads of 17 distances, and two for each pair
+-- a decision is one row; for a page of n pairs the heads of 17 distances, and two for each pair
 abbrev pub query_reads : Query → Option ℕ
+query_reads (queries.Decision n) = Some 1
 query_reads (queries.Pairs page) = Some (2 * page.n + 17)
 query_reads query = None
 
