@@ -13,9 +13,10 @@ use Rattle.relation_groups.specs.Relations as groups
 use Rattle.potential_pairs.specs.Pages.{named, page_of, within}
 use Rattle.potential_pairs.specs.Potential.{Row, potentials}
 use Rattle.library_machine.specs.Guards.{guarded}
-use Rattle.library_machine.specs.Needs.{Need, decision_there, file_there, is_met, unmet}
+use Rattle.library_machine.specs.Needs.{Need, decision_there, file_there, service_there, is_met, unmet}
 use Rattle.library_machine.specs.Records.{Records}
 use Rattle.library_machine.specs.Searches.{search_queue}
+use Rattle.library_machine.specs.Tagging.{mappings_told}
 
 -- the relations that the standing decisions make
 abbrev pub related : Records → groups.Relations
@@ -37,6 +38,7 @@ query_needs (queries.Decision n) = decision_there n ∷ []
 query_needs (queries.Pairs page) = []
 query_needs (queries.PairCount m) = []
 query_needs queries.Queues = []
+query_needs (queries.Mappings service file) = file_there file ∷ service_there service ∷ []
 
 -- The first pairs after a place, and how many pairs there are, are those within a distance. No tags wait yet.
 unfoldable pub answer : Records → Query → Answer
@@ -45,6 +47,7 @@ answer r (queries.Decision n) = decision_told (slice_get r.decisions n.0)
 answer r (queries.Pairs page) = answers.Pairs (map named (page_of page.after page.n page.at_most (potential_pairs r)))
 answer r (queries.PairCount m) = answers.PairCount (length (within m (potential_pairs r)))
 answer r queries.Queues = answers.Queues (record { search = length (search_queue r); display = 0 })
+answer r (queries.Mappings service file) = mappings_told r service file
 
 -- the answer, or why there is none
 abbrev pub asked : Records → Query → Result Answer Unmet

@@ -1,0 +1,4 @@
+pub mod Cleaning
+pub mod CleaningLaws
+pub mod Following
+pub mod ServiceLists
