@@ -1,5 +1,5 @@
 -- Laws of the numbers of tags.
-use Rattle.std.proofs.Common.{◌≡◌, ◌≢◌, ◌↔◌, ◌<◌, ◌≤◌, ◌+◌, ◌||◌, ℕ, suc, Bool, true, false, not, cond, nat_lt, if◌then◌else◌, List, [], ◌∷◌, ◌++◌, length, length-append, Some, None, is_some, arith, refl, sym, ap, ◌∙◌}
+use Rattle.std.proofs.Common.{Option, ◌≡◌, ◌≢◌, ◌↔◌, ◌<◌, ◌≤◌, ◌+◌, ◌||◌, ℕ, suc, Bool, true, false, not, cond, nat_lt, if◌then◌else◌, List, [], ◌∷◌, ◌++◌, length, length-append, Some, None, is_some, arith, refl, sym, ap, ◌∙◌}
 use Rattle.std.specs.Prelude.{bytes_eq, Contains}
 use Rattle.std.specs.List.{list_any, position_or_len}
 use Rattle.std.specs.Cmp.Lexicographic.{nat_list_eq_equiv}
@@ -101,3 +101,16 @@ module _ (text : List ℕ) (texts : List (List ℕ)) where
   distinct-with_tag distinct = with_by (λ is same. rw same distinct)
       (λ is more. rw more (all_pairs_push (λ a b. a ≢ b) texts text distinct
       (λ k d lt same. both_ways _ is (list_any_at (bytes_eq text) texts k d lt (rw same (itself text))))))
+
+  -- a number that it has is its number
+  pub number_is : (found : Option ℕ) → number_of text texts ≡ found → (k : ℕ) → found ≡ Some k → number_or_next text texts ≡ k
+  number_is found is k e = by_test (nat_lt (number_or_next text texts) (length texts)) (is ∙ e) where
+    by_test : (test : Bool) → cond test (Some (number_or_next text texts)) None ≡ Some k → number_or_next text texts ≡ k
+    by_test true same = cc same
+    by_test false same = absurd (cc same)
+
+  -- and a text that has none is new
+  pub unnumbered_new : number_of text texts ≡ None → with_tag texts text ≡ texts ++ text ∷ []
+  unnumbered_new none = with_by
+      (λ is same. absurd (both_ways _ (ap (λ (found : Option ℕ). is_some found) none) (is_numbered text texts ∙ is)))
+      (λ is more. more)
