@@ -103,6 +103,10 @@ undelete_of k = Do (changes.Live (file k) true)
 abbrev pub relations_of : ℕ → Command
 relations_of k = Ask (queries.Relations (file k))
 
+-- the question what decision n is
+abbrev pub decision_of : ℕ → Command
+decision_of n = Ask (queries.Decision (record { 0 = n }))
+
 -- the refusals of a command in the order of their tests, but for a job, whose change has them
 abbrev pub refusals_of : Command → List Unmet
 refusals_of (Ask q) = map unmet (query_needs q)
@@ -135,6 +139,10 @@ imported k status = Ok (answers.Imported (record { file = file k; status = statu
 -- the decision is recorded under number n
 abbrev pub decided : ℕ → Reply
 decided n = Ok (answers.Decided (record { 0 = n }))
+
+-- the decision that is recorded, and whether it is undone
+abbrev pub recorded : Code → ℕ → ℕ → Bool → Reply
+recorded code a b undone = Ok (answers.Decision (record { code = code; a = file a; b = file b }) undone)
 
 -- decision n is undone now
 abbrev pub undone : ℕ → Reply

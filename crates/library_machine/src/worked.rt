@@ -3,7 +3,7 @@ ghost use Rattle.media_types.specs.declared.decision.Code.TheVariants.{Alternate
 ghost use Rattle.media_base.specs.declared.refusal.Unmet.TheVariants.{AlreadyUndone, FullDecisions, FullFiles, FullNear, SameFile, UnknownDecision, UnknownFile};
 ghost use Rattle.media_base.specs.declared.reply.ImportStatus.TheVariants.{New, Known, Deleted};
 ghost use Rattle.library_machine.specs.Session.{nothing, replies, replies_behind};
-ghost use Rattle.library_machine.specs.Worked.{decide_of, import_of, import_with, queued, queues, pairs_from, pairs_behind, count_within, counted, listed, search_of, search_next, searched, distance_of, within, better_than, delete_of, undelete_of, changed, rebalance, rebalanced, relations_of, undo_of, imported, decided, undone, grouped, standing, no, refusals_of};
+ghost use Rattle.library_machine.specs.Worked.{decide_of, import_of, import_with, queued, queues, pairs_from, pairs_behind, count_within, counted, listed, search_of, search_next, searched, distance_of, within, better_than, delete_of, undelete_of, changed, rebalance, rebalanced, relations_of, decision_of, undo_of, imported, decided, recorded, undone, grouped, standing, no, refusals_of};
 
 /// Small sessions whose replies can be followed by hand. The call does nothing.
 #[tactic(auto, unfolding(crate::specs::Step::step, crate::specs::Step::admitted, crate::specs::Changing::needs, crate::specs::Changing::is_idle, crate::specs::Changing::effect, crate::specs::Changing::answer_to, crate::specs::Asking::query_needs, crate::specs::Asking::answer, crate::specs::Jobs::worked_out, crate::specs::Jobs::tended, file_records::specs::Searching::queue_of, file_records::specs::Searching::searched, file_records::specs::Searching::rising, file_records::specs::Near::near_at, spare_tables::specs::Pairs::pairs_below, potential_pairs::specs::Potential::potential_at, potential_pairs::specs::Pages::page_of, relation_groups::specs::Relations::relations_at))]
@@ -12,8 +12,8 @@ pub fn worked_rows()
     ensures refusals_in_order { map refusals_of (import_of 10 ∷ delete_of 0 ∷ undelete_of 0 ∷ better_than 0 1 ∷ undo_of 0 ∷ distance_of 8 ∷ search_of (0 ∷ []) 8 ∷ [])
         ≡ (FullFiles ∷ []) ∷ (UnknownFile ∷ []) ∷ (UnknownFile ∷ []) ∷ (UnknownFile ∷ UnknownFile ∷ SameFile ∷ FullDecisions ∷ [])
         ∷ (UnknownDecision ∷ AlreadyUndone ∷ []) ∷ [] ∷ (UnknownFile ∷ FullNear ∷ []) ∷ [] }
-    ensures questions_in_order { map refusals_of (relations_of 0 ∷ pairs_from 10 16 ∷ count_within 8 ∷ queues ∷ [])
-        ≡ (UnknownFile ∷ []) ∷ [] ∷ [] ∷ [] ∷ [] }
+    ensures questions_in_order { map refusals_of (relations_of 0 ∷ decision_of 0 ∷ pairs_from 10 16 ∷ count_within 8 ∷ queues ∷ [])
+        ≡ (UnknownFile ∷ []) ∷ (UnknownDecision ∷ []) ∷ [] ∷ [] ∷ [] ∷ [] }
 
     ensures a_known_file_keeps_its_number { replies nothing (import_of 10 ∷ import_of 11 ∷ import_of 10 ∷ [])
         ≡ imported 0 New ∷ imported 1 New ∷ imported 0 Known ∷ [] }
@@ -47,6 +47,9 @@ pub fn worked_rows()
         (relations_of 2 ∷ undo_of 0 ∷ relations_of 2 ∷ relations_of 0 ∷ undo_of 0 ∷ undo_of 2 ∷ [])
         ≡ grouped 0 (0 ∷ 1 ∷ 2 ∷ []) ∷ undone 0 ∷ grouped 1 (1 ∷ 2 ∷ []) ∷ grouped 0 (0 ∷ [])
         ∷ no AlreadyUndone ∷ no UnknownDecision ∷ [] }
+    ensures told_as_recorded { replies_behind (import_of 10 ∷ import_of 11 ∷ decide_of Same 1 0 ∷ [])
+        (decision_of 0 ∷ undo_of 0 ∷ decision_of 0 ∷ decision_of 1 ∷ [])
+        ≡ recorded Same 1 0 false ∷ undone 0 ∷ recorded Same 1 0 true ∷ no UnknownDecision ∷ [] }
     ensures not_related_across_alternates { replies_behind
         (import_of 10 ∷ import_of 11 ∷ import_of 12 ∷ decide_of NotRelated 0 1 ∷ decide_of Alternates 1 2 ∷ [])
         (relations_of 2 ∷ undo_of 1 ∷ relations_of 2 ∷ relations_of 0 ∷ [])

@@ -33,8 +33,9 @@ live_reads r file = 8 * (2 + length (filter (λ row. has_file file.0 row.0) (nea
 abbrev pub mappings_reads : Records → ServiceNo → FileNo → ℕ
 mappings_reads r service file = 2 + length (tags_of_file r.mappings service.0 file.0)
 
--- for a page of n pairs the heads of 17 distances, and two for each pair
+-- a decision is one row; for a page of n pairs the heads of 17 distances, and two for each pair
 abbrev pub query_reads : Records → Query → Option ℕ
+query_reads r (queries.Decision n) = Some 1
 query_reads r (queries.Pairs page) = Some (2 * page.n + 17)
 query_reads r (queries.Mappings service file) = Some (mappings_reads r service file)
 query_reads r query = None

@@ -1,9 +1,8 @@
 -- What planned changes of services and mappings lead to.
-use Rattle.std.specs.Prelude.{◌≡◌, ◌<◌, ◌≤◌, ℕ, List, [], ◌∷◌, ◌++◌, length, Option, Some, None}
+use Rattle.std.specs.Prelude.{◌≡◌, ◌<◌, ◌≤◌, ℕ, true, false, List, length, Option, Some, None}
 use Rattle.media_base.specs.declared.change.Mapping.{Mapping}
 use Rattle.tag_types.specs.declared.limits.TheConstants.{MAX_SERVICES, MAX_TAGS}
 use Rattle.tag_store.specs.Numbering.{is_tag, number_or_next}
-use Rattle.tag_store.specs.Mapped.{with_state}
 use Rattle.library_machine.specs.Records.{Records, Fits}
 use Rattle.library_machine.specs.Tagging.{with_mapping, with_orders, with_service}
 use Rattle.library_tables.specs.declared.tags.PlannedMapping.{PlannedMapping}

@@ -25,6 +25,7 @@ impl Tables {
     {
         match query {
             Query::Relations(file) => self.tell_relations(*file),
+            Query::Decision(number) => Ok(self.tell_decision(*number, steps)),
             Query::Pairs(page) => self.tell_pairs(*page, steps),
             Query::PairCount(at_most) => Ok(Ok(self.tell_pair_count(*at_most))),
             Query::Queues => Ok(Ok(self.tell_queues())),
