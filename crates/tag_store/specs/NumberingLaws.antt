@@ -1,5 +1,5 @@
 -- Laws of the numbers of tags.
-use Rattle.std.proofs.Common.{Option, ◌≡◌, ◌≢◌, ◌↔◌, ◌<◌, ◌≤◌, ◌+◌, ◌||◌, ℕ, suc, Bool, true, false, not, cond, nat_lt, if◌then◌else◌, List, [], ◌∷◌, ◌++◌, length, length-append, Some, None, is_some, arith, refl, sym, ap, ◌∙◌}
+use Rattle.std.proofs.Common.{inl, inr, Option, ◌≡◌, ◌≢◌, ◌↔◌, ◌<◌, ◌≤◌, ◌+◌, ◌||◌, ℕ, suc, Bool, true, false, not, cond, nat_lt, if◌then◌else◌, List, [], ◌∷◌, ◌++◌, length, length-append, Some, None, is_some, arith, refl, sym, ap, ◌∙◌}
 use Rattle.std.specs.Prelude.{bytes_eq, Contains}
 use Rattle.std.specs.List.{list_any, position_or_len}
 use Rattle.std.specs.Cmp.Lexicographic.{nat_list_eq_equiv}
@@ -9,7 +9,8 @@ use Rattle.std.proofs.lemmas.List.Folds.{list_any_at, position_or_len_push}
 use Rattle.std.proofs.lemmas.List.Quantifiers.{all_pairs_push}
 use Rattle.std.proofs.lemmas.Map.Views.{Contains-from_any, list_any-from_Contains}
 use Rattle.std.proofs.lemmas.Slice.Eq.{bytes_eq-Decides}
-use Rattle.tag_store.specs.Numbering.{AreDistinctTexts, is_tag, number_of, number_or_next, with_tag}
+use Rattle.tag_types.specs.declared.limits.TheConstants.{MAX_TAGS}
+use Rattle.tag_store.specs.Numbering.{AreDistinctTexts, AreNumbered, HasPlaceFor, is_tag, number_of, number_or_next, with_tag}
 
 same_text : (x y : List ℕ) → bytes_eq x y ≡ true → x ≡ y
 same_text x y e = (bytes_eq-Decides x y).0 e
@@ -114,3 +115,14 @@ module _ (text : List ℕ) (texts : List (List ℕ)) where
   unnumbered_new none = with_by
       (λ is same. absurd (both_ways _ (ap (λ (found : Option ℕ). is_some found) none) (is_numbered text texts ∙ is)))
       (λ is more. more)
+
+  -- and one that has one is known
+  pub numbered_known : (k : ℕ) → number_of text texts ≡ Some k → with_tag texts text ≡ texts
+  numbered_known k is = known_by (sym (is_numbered text texts) ∙ ap (λ (found : Option ℕ). is_some found) is)
+
+  -- the texts of a table are such still
+  pub AreNumbered-with_tag : HasPlaceFor text texts → AreNumbered texts → AreNumbered (with_tag texts text)
+  AreNumbered-with_tag place numbered = record { few = few_by place; distinct = distinct-with_tag numbered.distinct } where
+    few_by : HasPlaceFor text texts → length (with_tag texts text) ≤ MAX_TAGS
+    few_by (inl known) = rw (known_by known) numbered.few
+    few_by (inr room) = omega (arith, room, length-with_tag)

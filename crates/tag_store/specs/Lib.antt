@@ -1,0 +1,4 @@
+pub mod Numbering
+pub mod NumberingLaws
+pub mod Serving
+pub mod TagTexts
