@@ -1,5 +1,5 @@
 -- The texts of the tags once one more has been used.
-use Rattle.std.proofs.Common.{List, ℕ, ◌++◌, ◌∷◌, []}
+use Rattle.std.proofs.Common.{List, ℕ}
 use Rattle.std.specs.Prelude.{All}
 use Rattle.std.proofs.lemmas.List.Elements.{All-push}
 use Rattle.tag_types.specs.Cleaning.{IsTag}
