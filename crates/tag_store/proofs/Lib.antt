@@ -1,3 +1,1 @@
-pub mod Keeping
-pub mod LastRows
-pub mod Slots
+pub mod TagTexts

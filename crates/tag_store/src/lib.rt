@@ -1,13 +1,11 @@
-//! The tags, their services, and which tags are mapped to which files.
+//! The tags of a library by number, and its tag services.
 #![tactic(auto)]
 
-mod last_walk;
-mod mappings;
 mod services;
 mod tags;
-mod walks;
 
-pub use mappings::Mappings;
 pub use services::Services;
 pub use tags::Tags;
-pub use walks::{FileWalk, TagWalk};
+
+#[cfg(test)]
+mod tests;

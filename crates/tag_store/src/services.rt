@@ -6,8 +6,8 @@ use media_types::ServiceNo;
 use std::marker::Model;
 use tag_types::{MAX_SERVICES, Orders};
 
-/// The tag services, numbered from 0, each with the orders in which it takes the pairs of services. There are
-/// 1 to `MAX_SERVICES`. They take no memory.
+/// The tag services of a library, at most `MAX_SERVICES`, by number: whose pairs each takes, in which
+/// order. Service 0 is there from the start. It takes no memory.
 #[derive(Debug, Drop)]
 pub struct Services {
     slots: [Orders; MAX_SERVICES],
@@ -15,11 +15,12 @@ pub struct Services {
 }
 
 impl Model for Services {
-    ghost use Rattle.std.specs.Prelude.{List, take};
-    ghost use Rattle.tag_types.specs.declared.orders.Orders.{Orders as Own};
+    ghost use Rattle.std.specs.Prelude.{List, ◌≤◌, length, take};
+    ghost use Rattle.tag_types.specs.declared.limits.TheConstants.{MAX_SERVICES};
+    ghost use Rattle.tag_types.specs.declared.orders.Orders.{Orders as ServiceOrders};
     ghost use Rattle.tag_store.specs.Serving.{AreSlots};
 
-    ghost Value = { List Own };
+    ghost Value = { List ServiceOrders };
 
     ghost view = { λ services. take services.len services.slots };
 
@@ -37,7 +38,7 @@ impl Services {
         }
     }
 
-    /// 1 to `MAX_SERVICES`.
+    /// The number of services, 1 to `MAX_SERVICES`.
     pub fn len(&self) -> u8
         ensures value { result ≡ length self.now }
         ensures few { result ≤ MAX_SERVICES }
@@ -45,6 +46,7 @@ impl Services {
         self.len
     }
 
+    /// Whose pairs a service takes.
     pub fn orders(&self, service: ServiceNo) -> &Orders
         requires { service.0 < length self.now }
         ensures { slice_get self.now service.0 ≡ Some result.now }
@@ -52,7 +54,7 @@ impl Services {
         &self.slots[service.0 as usize]
     }
 
-    /// Puts a service last, which takes its own pairs alone.
+    /// Puts one more service last, which takes its own pairs alone.
     pub fn add(&mut self)
         requires { length self.old < MAX_SERVICES }
         ensures { self.new ≡ self.old ++ next_orders self.old ∷ [] }
@@ -61,7 +63,7 @@ impl Services {
         self.len += 1;
     }
 
-    /// Sets the orders of a service.
+    /// Gives a service other orders.
     pub fn set(&mut self, service: ServiceNo, orders: Orders)
         requires { service.0 < length self.old }
         ensures { self.new ≡ slice_set self.old service.0 orders }

@@ -1,7 +1,8 @@
-ghost use Rattle.std.specs.Prelude.{◌≡◌, ◌<◌, ◌≤◌, ◌+◌, [], length, take, OnErr, OnOk, IfOk, Some, slice_get, option_map};
-ghost use Rattle.indexmap.specs.IndexSet.{spare as index_spare};
+ghost use Rattle.std.specs.Prelude.{◌≡◌, ◌+◌, ◌<◌, ◌≤◌, [], length, take, Some, IfOk, OnOk, OnErr, All, slice_get};
+ghost use Rattle.std.specs.Option.{option_map};
 ghost use Rattle.tag_types.specs.declared.limits.TheConstants.{MAX_TAGS};
-ghost use Rattle.tag_store.specs.Numbering.{HasPlaceFor, number_of, number_or_next, with_tag};
+ghost use Rattle.tag_types.specs.Cleaning.{IsTag};
+ghost use Rattle.tag_store.specs.Numbering.{AreDistinctTexts, HasPlaceFor, number_of, number_or_next, with_tag};
 
 use indexmap::IndexSet;
 use media_types::{NoMemory, TagNo};
@@ -9,10 +10,10 @@ use std::alloc::Global;
 use std::marker::Model;
 use tag_types::TagText;
 
-/// The tags of a library, numbered in order of first use. No two have the same text.
+/// The tags of a library by number, in order of first use. None stands twice.
 ///
-/// They are found by a hash table whose seed is fixed: who chooses the texts can make look-ups as slow as a
-/// walk over all tags.
+/// Room is made first, and then a tag is put in without taking memory. Tags are found by a hash table
+/// whose seed is fixed: who chooses the tags can make look-ups as slow as a walk over all of them.
 #[derive(Drop)]
 #[derive_where(Debug)]
 pub struct Tags {
@@ -22,21 +23,20 @@ pub struct Tags {
 }
 
 impl Model for Tags {
-    ghost use Rattle.indexmap.specs.IndexSet.{spare as index_spare};
-    ghost use Rattle.tag_store.specs.Numbering.{AreNumbered, Numbered};
+    ghost use Rattle.tag_store.specs.Numbering.{Numbered};
 
     ghost Value = { Numbered };
 
-    ghost view = { λ tags. record {
-      texts = tags.index.keys;
-      spare = index_spare tags.index;
-    } };
+    ghost use Rattle.indexmap.specs.IndexSet.{spare as index_spare};
+    ghost use Rattle.tag_store.specs.TagTexts.{AreTags};
 
-    ghost invariant = { λ tags. AreNumbered tags.index.keys };
+    ghost view = { λ tags. record { texts = tags.index.keys; spare = index_spare tags.index } };
+
+    ghost invariant = { λ tags. AreTags tags.index.keys };
 }
 
 impl Tags {
-    /// No tags, and no room. It takes no memory yet.
+    /// No tags. It takes no memory yet.
     pub fn new(alloc: Global) -> Tags
         ensures { result.texts ≡ [] }
     {
@@ -46,15 +46,18 @@ impl Tags {
         }
     }
 
-    /// The number of tags, at most `MAX_TAGS`. A caller learns here that no two have the same text.
+    /// The number of tags. A caller that sees the texts alone learns here what they all keep to.
     pub fn len(&self) -> u32
         ensures texts { result ≡ length self.now.texts }
         ensures few { result ≤ MAX_TAGS }
+        ensures distinct { AreDistinctTexts self.now.texts }
+        ensures tags { All IsTag self.now.texts }
     {
         self.index.len() as u32
     }
 
-    /// The number of the tag of this text, if there is one.
+    /// The number of a tag, where it has one. It is found without a walk over the tags, unless they were
+    /// chosen to make it one.
     pub fn find(&self, text: &TagText) -> Option<TagNo>
         ensures { option_map (λ tag. tag.0) result ≡ number_of text.now self.now.texts }
     {
@@ -62,6 +65,7 @@ impl Tags {
         Some(TagNo(at as u32))
     }
 
+    /// The text of a tag.
     pub fn text(&self, tag: TagNo) -> &TagText
         requires { tag.0 < length self.now.texts }
         ensures { slice_get self.now.texts tag.0 ≡ Some result.now }
@@ -69,7 +73,7 @@ impl Tags {
         self.index.get_index(tag.0 as usize).unwrap()
     }
 
-    /// Makes room for one more tag.
+    /// Makes room for one more tag. Where there was none, it may move each tag.
     pub fn reserve(&mut self) -> Result<(), NoMemory>
         ensures texts { self.new.texts ≡ self.old.texts }
         ensures ok { OnOk result (1 ≤ self.new.spare) }
@@ -79,8 +83,7 @@ impl Tags {
         Ok(())
     }
 
-    /// Gives a text that is new the next number, in the room that was made, and tells its number. One that is
-    /// known keeps its number.
+    /// Gives the tag its number: its own where it has one, and the next one else. It takes no memory.
     pub fn insert(&mut self, text: TagText) -> TagNo
         requires room { 1 ≤ self.old.spare }
         requires few { HasPlaceFor text self.old.texts }
@@ -88,11 +91,13 @@ impl Tags {
         ensures number { result.0 ≡ number_or_next text self.old.texts }
         ensures spare { self.old.spare ≤ self.new.spare + 1 }
     {
-        let (at, _) = self.index.insert_full(text).unwrap();
+        let _bytes = text.as_bytes();
+        let (at, _is_new) = self.index.insert_full(text).unwrap();
         TagNo(at as u32)
     }
 
-    /// Takes the memory for a text that is new and numbers it. One that is known takes none.
+    /// The number of the tag, which gets the next one where it has none. It takes memory for a tag that is
+    /// new alone.
     pub fn intern(&mut self, text: &TagText) -> Result<TagNo, NoMemory>
         requires { HasPlaceFor text.now self.old.texts }
         ensures texts { OnOk result (self.new.texts ≡ with_tag self.old.texts text.now) }
@@ -107,7 +112,7 @@ impl Tags {
         Ok(self.insert(copy))
     }
 
-    /// Keeps the first n tags alone.
+    /// Keeps the first n tags, and takes the others back.
     pub fn withdraw(&mut self, n: u32)
         ensures { self.new.texts ≡ take n self.old.texts }
     {
