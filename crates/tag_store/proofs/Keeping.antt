@@ -1,5 +1,5 @@
 -- Mappings that are kept in two orders say the same, also once one is set.
-use Rattle.std.proofs.Common.{◌≡◌, ◌≢◌, ◌⊎◌, ◌∙◌, ◌<◌, ◌^◌, ◌==◌, ◌&&◌, ℕ, Bool, cond, List, [], ◌∷◌, Option, Some, None, find, filter, map, refl, sym, ap, inl, inr}
+use Rattle.std.proofs.Common.{◌≡◌, ◌∙◌, ◌<◌, ◌^◌, ◌==◌, ◌&&◌, ℕ, Bool, List, [], ◌∷◌, Option, Some, None, find, filter, map, refl, sym, ap, inl, inr}
 use Rattle.std.specs.List.{All}
 use Rattle.std.specs.List.Sorted.{IsStrictlySortedBy}
 use Rattle.std.specs.BTreeMap.{is_at}
@@ -7,7 +7,6 @@ use Rattle.std.specs.Map.{keys_of}
 use Rattle.std.specs.Option.{option_map}
 use Rattle.std.proofs.lemmas.Bool.{cases_Bool}
 use Rattle.std.proofs.lemmas.Map.Views.{All-keys-insert_entry, All-map-remove_entry}
-use Rattle.media_types.specs.declared.numbers.FileNo.{FileNo}
 use Rattle.media_types.specs.declared.numbers.TagNo.{TagNo}
 use Rattle.spare_tables.specs.EditLaws.{same_rows}
 use Rattle.spare_tables.specs.Keys.{value_of}

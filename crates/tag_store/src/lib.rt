@@ -7,3 +7,6 @@ mod walks;
 
 pub use mappings::Mappings;
 pub use walks::{FileWalk, TagWalk};
+
+#[cfg(test)]
+mod mapping_tests;

@@ -1,7 +1,6 @@
-use Rattle.std.proofs.Common.{◌≡◌, ◌==◌, ◌&&◌, [], ◌∷◌, false, drop, slice_get, sym, ap, subst, ◌∙◌}
+use Rattle.std.proofs.Common.{◌≡◌, ◌==◌, ◌&&◌, false, drop, slice_get, sym, ap, subst, ◌∙◌}
 use Rattle.tag_store.specs.Lasts.{AscendFrom, lasts}
-use Rattle.tag_store.proofs.LastRows.{fails-first, fails-second, lasts-other, lasts-this, later_ascend}
-use Rattle.tag_store.proofs.last_walk.LastWalk.next.Given.{Over}
+use Rattle.tag_store.proofs.LastRows.{fails-first, fails-second, lasts-other, later_ascend}
 use Rattle.tag_store.proofs.last_walk.LastWalk.next.Goals as goal
 use Rattle.tag_store.proofs.last_walk.LastWalk.next.Goals.{else-key-self-via-then-key-self+else-key-self-2, else-key-self-via-else-key-self}
 
