@@ -1,5 +1,5 @@
 -- The services, and whose pairs each takes.
-use Rattle.std.specs.Prelude.{List, [], ◌∷◌}
+use Rattle.std.specs.Prelude.{ℕ, List, [], ◌∷◌}
 use Rattle.media_types.specs.declared.numbers.ServiceNo.{ServiceNo}
 use Rattle.tag_types.specs.declared.orders.Orders.{Orders}
 
