@@ -41,6 +41,7 @@ impl Mappings {
     /// No mappings. It takes no memory yet.
     pub fn new(alloc: Global) -> Mappings
         ensures rows { result.rows ≡ [] }
+        ensures spare { result.spare ≡ 0 }
     {
         Mappings {
             by_tag: TripleMap::new(alloc),
