@@ -13,6 +13,7 @@ use Rattle.tag_types.specs.declared.limits.TheConstants.{MAX_MAPPINGS, MAX_SERVI
 use Rattle.tag_types.specs.declared.map_state.MapState.{MapState}
 use Rattle.tag_types.specs.declared.map_state.MapState.TheVariants as states
 use Rattle.tag_types.specs.declared.orders.Orders.{Orders}
+use Rattle.tag_types.specs.Equality.{same_services, same_services-Decides}
 use Rattle.tag_store.specs.Mapped.{Ascend, Row, state_of, with_state}
 use Rattle.spare_tables.specs.EditLaws.{value_put}
 use Rattle.tag_store.specs.MappedLaws.{Ascend-with_state, length-taken, length-with_state, one_if, same_triple, state-others, triple_order}
@@ -22,7 +23,7 @@ use Rattle.library_machine.specs.Changing.{mapping_needs}
 use Rattle.library_machine.specs.Guards.{AreMet}
 use Rattle.library_machine.specs.Needs.{Met}
 use Rattle.library_machine.specs.Records.{Records, AreThere, TagsFit, IsService, IsThere, IsTagged}
-use Rattle.library_machine.specs.Tagging.{has_orders, is_mapped_so, is_same, is_same_list, is_state, mapped, numbered, with_mapping, with_orders, with_service}
+use Rattle.library_machine.specs.Tagging.{has_orders, is_mapped_so, is_same, is_state, mapped, numbered, with_mapping, with_orders, with_service}
 
 pub fit_more_files : (n m : ℕ) (r : Records) → n ≤ m → TagsFit n r.tags r.services r.mappings → TagsFit m r.tags r.services r.mappings
 fit_more_files n m r le fit = record {
@@ -62,16 +63,15 @@ orders_fit r service orders fit = record {
 }
 
 -- a list is the same as itself
-same_list : (services : List ServiceNo) → is_same_list services services ≡ true
-same_list [] = refl
-same_list (service ∷ services) = rw (eq-eqb service.0 service.0 refl) (same_list services)
+same_list : (services : List ServiceNo) → same_services services services ≡ true
+same_list services = (same_services-Decides services services).1 refl
 
 -- what is set at a place that is there stands there
 set_there : {A : Type 0} (xs : List A) (k : ℕ) (x : A) → k < length xs → slice_get (slice_set xs k x) k ≡ Some x
 set_there xs k x lt = slice_get-get_or (slice_set xs k x) k x (rw (length-set xs k x) lt) ∙ ap Some (get_or-set_same xs k x x lt)
 
 abbrev holds : Orders → Option Orders → Bool
-holds orders found = option_map_or (λ now. is_same_list now.siblings orders.siblings && is_same_list now.parents orders.parents) found false
+holds orders found = option_map_or (λ now. same_services now.siblings orders.siblings && same_services now.parents orders.parents) found false
 
 pub orders_other : (r : Records) (service : ServiceNo) (orders : Orders) → IsService r service → has_orders r service orders ≡ false
     → with_orders r service orders ≢ r

@@ -11,6 +11,7 @@ use Rattle.media_base.specs.declared.reply.FileMappings.{FileMappings}
 use Rattle.tag_types.specs.declared.map_state.MapState.{MapState}
 use Rattle.tag_types.specs.declared.map_state.MapState.TheVariants as states
 use Rattle.tag_types.specs.declared.orders.Orders.{Orders}
+use Rattle.tag_types.specs.Equality.{same_services}
 use Rattle.tag_store.specs.Mapped.{state_of, tags_of_file, with_state}
 use Rattle.tag_store.specs.Numbering.{number_of, number_or_next, with_tag}
 use Rattle.tag_store.specs.Serving.{next_orders}
@@ -78,15 +79,10 @@ with_service r = record r { services = r.services ++ next_orders r.services ∷ 
 abbrev pub with_orders : Records → ServiceNo → Orders → Records
 with_orders r service orders = record r { services = slice_set r.services service.0 orders }
 
--- the same services in the same order
-abbrev pub is_same_list : List ServiceNo → List ServiceNo → Bool
-is_same_list [] [] = true
-is_same_list (a ∷ first) (b ∷ second) = a.0 == b.0 && is_same_list first second
-is_same_list first second = false
-
+-- it has these orders already
 abbrev pub has_orders : Records → ServiceNo → Orders → Bool
 has_orders r service orders =
-    option_map_or (λ now. is_same_list now.siblings orders.siblings && is_same_list now.parents orders.parents) (slice_get r.services service.0) false
+    option_map_or (λ now. same_services now.siblings orders.siblings && same_services now.parents orders.parents) (slice_get r.services service.0) false
 
 -- the services that orders of a service name
 abbrev pub services_named : ServiceNo → Orders → List ServiceNo

@@ -270,11 +270,17 @@ impl Tables {
         ensures tree { self.new.tree.rows ≡ self.old.tree.rows }
         ensures words { HasWords self.new.tree.rows (records_of self.new) }
     {
-        if let Some(text) = plan.new_tag {
-            self.tags.insert(text);
+        let PlannedMapping {
+            service,
+            tag,
+            new_tag,
+            file,
+            state,
+        } = plan;
+        if let Some(text) = new_tag {
+            let _number = self.tags.insert(text);
         }
-        self.mappings
-            .set(plan.service, plan.tag, plan.file, plan.state);
+        self.mappings.set(service, tag, file, state);
     }
 
     #[tactic(auto, unfolding(library_machine::specs::Asking::query_needs, library_machine::specs::Asking::answer))]
