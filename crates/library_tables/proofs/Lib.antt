@@ -1,6 +1,7 @@
 pub mod Committing
 pub mod Deciding
 pub mod Importing
+pub mod Mapping
 pub mod PotentialPairs
 pub mod Placing
 pub mod Queueing

@@ -1,20 +1,18 @@
 //! Services, and the tags that are mapped to files.
 
-ghost use Rattle.std.specs.Prelude.{◌≡◌, ◌<◌, ◌≤◌, ◌+◌, IfOk, length, None, Some, option_and_then, option_map};
+ghost use Rattle.std.specs.Prelude.{◌≡◌, ◌<◌, ◌≤◌, ◌+◌, true, false, IfOk, is_some, length};
 ghost use Rattle.std.specs.List.{list_all};
 ghost use Rattle.media_base.specs.declared.change.Change.TheVariants as changes;
 ghost use Rattle.media_base.specs.declared.command.Query.TheVariants as queries;
-ghost use Rattle.tag_types.specs.declared.limits.TheConstants.{MAX_TAGS};
-ghost use Rattle.tag_store.specs.Mapped.{state_of};
-ghost use Rattle.tag_store.specs.Numbering.{number_of};
+ghost use Rattle.tag_store.specs.Numbering.{HasPlaceFor};
 ghost use Rattle.library_machine.specs.Asking as machine;
-ghost use Rattle.library_machine.specs.Needs.{has_service};
+ghost use Rattle.library_machine.specs.Needs.{has_file, has_service, has_tag};
 ghost use Rattle.library_machine.specs.Records.{Records};
-ghost use Rattle.library_machine.specs.Tagging.{file_mappings, services_named};
+ghost use Rattle.library_machine.specs.Tagging.{file_mappings, has_orders, is_same, mapped, numbered, services_named};
 ghost use Rattle.library_tables.specs.Counting.{mappings_reads};
 ghost use Rattle.library_tables.specs.Preparing.{IsPrepared};
 ghost use Rattle.library_tables.specs.Tables.{HasWords, records_of};
-ghost use Rattle.library_tables.specs.Tags.{IsReady, LeadsMapping, LeadsOrders, LeadsService};
+ghost use Rattle.library_tables.specs.Tags.{HasTagRoom, IsReady, LeadsMapping, LeadsOrders, LeadsService};
 
 use crate::plan::{Prepared, TablesPlan};
 use crate::tables::Tables;
@@ -80,17 +78,22 @@ impl Tables {
             return Ok(Unmet::UnknownService.into());
         }
         let answer = Answer::Service(service);
-        if *self.services.orders(service) == *orders {
+        if self.has_orders(service, orders) {
             return Ok(Prepared::Idle(answer));
         }
         library_machine::records_stay_fit();
-        Ok(Prepared::Ready(
-            TablesPlan::Orders(PlannedOrders {
-                service,
-                orders: *orders,
-            }),
-            answer,
-        ))
+        let plan = PlannedOrders {
+            service,
+            orders: *orders,
+        };
+        Ok(Prepared::Ready(TablesPlan::Orders(plan), answer))
+    }
+
+    fn has_orders(&self, service: ServiceNo, orders: &Orders) -> bool
+        requires { service.0 < length self.now.services }
+        ensures { result ≡ has_orders (records_of self.now) service orders.now }
+    {
+        *self.services.orders(service) == *orders
     }
 
     // Whether the service is there, and all that the orders name.
@@ -108,6 +111,7 @@ impl Tables {
         services.iter().all(|service| self.has_service(*service))
     }
 
+    #[tactic(auto, unfolding(library_machine::specs::Changing::needs))]
     pub(crate) fn plan_mapping<L: Ledger>(
         &mut self,
         mapping: &Mapping,
@@ -118,132 +122,139 @@ impl Tables {
         ensures prepared { IfOk result (IsPrepared (changes.Mapping mapping.now) self.new) }
         ensures reads { steps.new ≤ steps.old + 1 }
     {
-        match mapping.state {
-            Some(state) => self.plan_map(mapping, state, steps),
-            None => self.plan_unmap(mapping, steps),
+        if !self.has_file(mapping.file) {
+            return Ok(Unmet::UnknownFile.into());
+        }
+        if !self.has_service(mapping.service) {
+            return Ok(Unmet::UnknownService.into());
+        }
+        let found = self.mapped(mapping, steps);
+        if mapping.state.is_some() {
+            self.plan_map(mapping, found)
+        } else {
+            self.plan_unmap(mapping, found)
         }
     }
 
-    #[tactic(auto, unfolding(library_machine::specs::Changing::needs, library_machine::specs::Changing::is_idle, library_machine::specs::Changing::effect, library_machine::specs::Changing::answer_to))]
-    fn plan_map<L: Ledger>(
+    fn plan_map(
         &mut self,
         mapping: &Mapping,
-        state: MapState,
-        steps: &mut Steps<L>,
+        found: Option<MapState>,
     ) -> Result<Prepared, NoMemory>
-        requires state { mapping.now.state ≡ Some state }
+        requires file { has_file (records_of self.old) mapping.now.file ≡ true }
+        requires service { has_service (records_of self.old) mapping.now.service ≡ true }
+        requires found { found ≡ mapped (records_of self.old) mapping.now.service mapping.now.tag mapping.now.file }
+        requires state { is_some mapping.now.state ≡ true }
         ensures records { records_of self.new ≡ records_of self.old }
         ensures tree { self.new.tree.rows ≡ self.old.tree.rows }
         ensures prepared { IfOk result (IsPrepared (changes.Mapping mapping.now) self.new) }
-        ensures reads { steps.new ≤ steps.old + 1 }
     {
-        let Mapping {
-            service, tag, file, ..
-        } = mapping;
-        if !self.has_file(*file) {
-            return Ok(Unmet::UnknownFile.into());
-        }
-        if !self.has_service(*service) {
-            return Ok(Unmet::UnknownService.into());
-        }
-        let number = self.tags.find(tag);
-        if number.is_none() && self.tags.len() >= MAX_TAGS {
+        if !self.has_tag(&mapping.tag) && self.tags.len() >= MAX_TAGS {
             return Ok(Unmet::FullTags.into());
         }
-        let found = self.state_of(*service, number, *file, steps);
         if found.is_none() && self.mappings.len() >= MAX_MAPPINGS {
             return Ok(Unmet::FullMappings.into());
         }
-        library_machine::records_stay_fit();
+        let is_so = is_same(found, mapping.state);
         let answer = Answer::Mapped(Mapped {
-            tag: number.unwrap_or(TagNo(self.tags.len())),
-            changed: found != Some(state),
+            tag: self.numbered(&mapping.tag),
+            changed: !is_so,
         });
-        if found == Some(state) {
+        if is_so {
             return Ok(Prepared::Idle(answer));
         }
-        let plan = self.ready_mapping(mapping, number)?;
+        library_machine::records_stay_fit();
+        let plan = self.ready_mapping(mapping)?;
         Ok(Prepared::Ready(TablesPlan::Mapping(plan), answer))
     }
 
-    #[tactic(auto, unfolding(library_machine::specs::Changing::needs, library_machine::specs::Changing::is_idle, library_machine::specs::Changing::effect, library_machine::specs::Changing::answer_to))]
-    fn plan_unmap<L: Ledger>(
+    fn plan_unmap(
         &mut self,
         mapping: &Mapping,
-        steps: &mut Steps<L>,
+        found: Option<MapState>,
     ) -> Result<Prepared, NoMemory>
-        requires state { mapping.now.state ≡ None }
+        requires file { has_file (records_of self.old) mapping.now.file ≡ true }
+        requires service { has_service (records_of self.old) mapping.now.service ≡ true }
+        requires found { found ≡ mapped (records_of self.old) mapping.now.service mapping.now.tag mapping.now.file }
+        requires state { is_some mapping.now.state ≡ false }
         ensures records { records_of self.new ≡ records_of self.old }
         ensures tree { self.new.tree.rows ≡ self.old.tree.rows }
         ensures prepared { IfOk result (IsPrepared (changes.Mapping mapping.now) self.new) }
-        ensures reads { steps.new ≤ steps.old + 1 }
     {
-        let Mapping {
-            service, tag, file, ..
-        } = mapping;
-        if !self.has_file(*file) {
-            return Ok(Unmet::UnknownFile.into());
-        }
-        if !self.has_service(*service) {
-            return Ok(Unmet::UnknownService.into());
-        }
-        let Some(number) = self.tags.find(tag) else {
+        if !self.has_tag(&mapping.tag) {
             return Ok(Unmet::UnknownTag.into());
-        };
-        if self
-            .mappings
-            .state(*service, number, *file, steps)
-            .is_none()
-        {
-            return Ok(Prepared::Idle(Answer::Changed(false)));
+        }
+        let is_so = is_same(found, mapping.state);
+        let answer = Answer::Changed(!is_so);
+        if is_so {
+            return Ok(Prepared::Idle(answer));
         }
         library_machine::records_stay_fit();
-        let plan = self.ready_mapping(mapping, Some(number))?;
-        Ok(Prepared::Ready(
-            TablesPlan::Mapping(plan),
-            Answer::Changed(true),
-        ))
+        let plan = self.ready_mapping(mapping)?;
+        Ok(Prepared::Ready(TablesPlan::Mapping(plan), answer))
     }
 
-    // How the tag of this number is mapped to the file; one that has none isn't mapped.
-    fn state_of<L: Ledger>(
-        &self,
-        service: ServiceNo,
-        number: Option<TagNo>,
-        file: FileNo,
-        steps: &mut Steps<L>,
-    ) -> Option<MapState>
-        ensures state { result ≡ option_and_then (λ tag. state_of self.now.mappings.rows service.0 tag.0 file.0) number }
+    fn has_tag(&self, text: &TagText) -> bool
+        ensures { result ≡ has_tag (records_of self.now) text.now }
+    {
+        self.tags.find(text).is_some()
+    }
+
+    // The number that the text has, or would have.
+    fn numbered(&self, text: &TagText) -> TagNo
+        ensures { result ≡ numbered (records_of self.now) text.now }
+    {
+        match self.tags.find(text) {
+            Some(tag) => tag,
+            None => TagNo(self.tags.len()),
+        }
+    }
+
+    // How the tag is mapped to the file.
+    fn mapped<L: Ledger>(&self, mapping: &Mapping, steps: &mut Steps<L>) -> Option<MapState>
+        ensures state { result ≡ mapped (records_of self.now) mapping.now.service mapping.now.tag mapping.now.file }
         ensures reads { steps.new ≤ steps.old + 1 }
     {
-        self.mappings.state(service, number?, file, steps)
+        let tag = self.tags.find(&mapping.tag)?;
+        self.mappings
+            .state(mapping.service, tag, mapping.file, steps)
     }
 
-    // Takes the memory of a mapping, and of its tag where that has no number.
-    fn ready_mapping(
-        &mut self,
-        mapping: &Mapping,
-        number: Option<TagNo>,
-    ) -> Result<PlannedMapping, NoMemory>
-        requires number { option_map (λ tag. tag.0) number ≡ number_of mapping.now.tag self.old.tags.texts }
-        requires room { (number ≡ None) → length self.old.tags.texts < MAX_TAGS }
+    // Takes the memory of a mapping, and of its tag where that is new.
+    fn ready_mapping(&mut self, mapping: &Mapping) -> Result<PlannedMapping, NoMemory>
+        requires { HasPlaceFor mapping.now.tag self.old.tags.texts }
         ensures records { records_of self.new ≡ records_of self.old }
         ensures tree { self.new.tree.rows ≡ self.old.tree.rows }
         ensures ready { IfOk result (λ plan. IsReady plan mapping.now self.new) }
     {
         self.mappings.reserve()?;
-        let mut new_tag = None;
-        if number.is_none() {
-            self.tags.reserve()?;
-            new_tag = Some(mapping.tag.copied(self.alloc)?);
-        }
+        let tag = self.numbered(&mapping.tag);
+        let new_tag = self.ready_tag(&mapping.tag)?;
         Ok(PlannedMapping {
             service: mapping.service,
-            tag: number.unwrap_or(TagNo(self.tags.len())),
+            tag,
             new_tag,
             file: mapping.file,
             state: mapping.state,
         })
+    }
+
+    // Takes the memory of a tag, and gives it where it is new.
+    fn ready_tag(&mut self, text: &TagText) -> Result<Option<TagText>, NoMemory>
+        requires { HasPlaceFor text.now self.old.tags.texts }
+        ensures same { self.new ≡ record self.old {
+          tags = record {
+            texts = self.old.tags.texts;
+            spare = self.new.tags.spare;
+          };
+        } }
+        ensures ready { IfOk result (λ new. HasTagRoom new text.now self.new) }
+    {
+        if self.has_tag(text) {
+            return Ok(None);
+        }
+        self.tags.reserve()?;
+        Ok(Some(text.copied(self.alloc)?))
     }
 
     pub(crate) fn commit_service(&mut self)
@@ -328,5 +339,18 @@ impl Tables {
             }
         }
         Ok(told)
+    }
+}
+
+// Whether the two are the same state, or both none.
+fn is_same(found: Option<MapState>, wanted: Option<MapState>) -> bool
+    ensures { result ≡ is_same found wanted }
+{
+    match (found, wanted) {
+        (Some(MapState::Current), Some(MapState::Current))
+        | (Some(MapState::Pending), Some(MapState::Pending))
+        | (Some(MapState::Deleted), Some(MapState::Deleted))
+        | (None, None) => true,
+        _ => false,
     }
 }

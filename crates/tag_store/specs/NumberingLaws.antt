@@ -126,3 +126,10 @@ module _ (text : List ℕ) (texts : List (List ℕ)) where
     few_by : HasPlaceFor text texts → length (with_tag texts text) ≤ MAX_TAGS
     few_by (inl known) = rw (known_by known) numbered.few
     few_by (inr room) = omega (arith, room, length-with_tag)
+
+  -- the next number is that of a text that has none
+  pub unnumbered_next : number_of text texts ≡ None → number_or_next text texts ≡ length texts
+  unnumbered_next none = by_test (is_tag text texts) refl where
+    by_test : (test : Bool) → is_tag text texts ≡ test → number_or_next text texts ≡ length texts
+    by_test true is = absurd (both_ways _ (ap (λ (found : Option ℕ). is_some found) none) (is_numbered text texts ∙ is))
+    by_test false is = next_by text texts is

@@ -1,0 +1,169 @@
+-- What is prepared for services and mappings is what the changes come to.
+use Rattle.std.proofs.Common.{◌≡◌, ◌≤◌, ◌<◌, ◌&&◌, ◌||◌, ◌⊎◌, inl, inr, ℕ, Bool, true, false, not, nat_lt, nat_le, Some, None, Ok, Err, Option, is_some, [], ◌∷◌, List, length, refl, arith, ap, subst, sym, ◌∙◌}
+use Rattle.std.specs.List.{list_all}
+use Rattle.std.proofs.lemmas.Bool.{ltb-true, both_ways}
+use Rattle.std.proofs.lemmas.Bool.Decides.{nat_tests}
+use Rattle.media_types.specs.declared.numbers.ServiceNo.{ServiceNo}
+use Rattle.media_base.specs.declared.change.Change.TheVariants as changes
+use Rattle.media_base.specs.declared.change.Mapping.{Mapping}
+use Rattle.media_base.specs.declared.refusal.Unmet.TheVariants as whys
+use Rattle.media_base.specs.declared.reply.Answer.TheVariants as answers
+use Rattle.tag_types.specs.declared.limits.TheConstants.{MAX_MAPPINGS, MAX_SERVICES, MAX_TAGS}
+use Rattle.tag_types.specs.declared.map_state.MapState.{MapState}
+use Rattle.tag_types.specs.declared.orders.Orders.{Orders}
+use Rattle.tag_store.specs.Numbering.{HasPlaceFor, is_tag, number_of}
+use Rattle.tag_store.specs.NumberingLaws.{numbered_there, tagged}
+use Rattle.library_machine.specs.Changing.{answer_to, does, effect, is_idle, mapping_needs, needs}
+use Rattle.library_machine.specs.Guards.{guarded}
+use Rattle.library_machine.specs.Laws.{ChangesKeepFit}
+use Rattle.library_machine.specs.Needs.{Need, has_file, has_mapping, has_service, has_tag, is_met, room_for_mapping, room_for_tag, tag_there, unmet}
+use Rattle.library_machine.specs.Records.{Records, Fits}
+use Rattle.library_machine.specs.Tagging.{has_orders, is_mapped_so, mapped, mapping_told, numbered, services_named, with_mapping, with_orders, with_service}
+use Rattle.library_tables.specs.declared.plan.Prepared.TheVariants as prepared
+use Rattle.library_tables.specs.declared.plan.TablesPlan.TheVariants as plans
+use Rattle.library_tables.specs.declared.tags.PlannedMapping.{PlannedMapping}
+use Rattle.library_tables.specs.declared.tags.PlannedOrders.{PlannedOrders}
+use Rattle.library_tables.specs.Preparing.{IsPrepared}
+use Rattle.library_tables.specs.Tables.{TablesView, records_of}
+use Rattle.library_tables.specs.Tags.{IsReady}
+
+-- ---- services
+
+service_does : (r : Records) → nat_lt (length r.services) MAX_SERVICES ≡ true → does r changes.Service ≡ Ok false
+unfolding needs is_idle
+service_does r room = rw room refl
+
+pub service_full : (r : Records) → nat_lt (length r.services) MAX_SERVICES ≡ false → does r changes.Service ≡ Err whys.FullServices
+unfolding needs is_idle
+service_full r full = rw full refl
+
+pub service_prepared : ChangesKeepFit → (t : TablesView) (count : ℕ) → Fits (records_of t) → nat_lt (length t.services) MAX_SERVICES ≡ true → count ≡ length t.services →
+    IsPrepared changes.Service t (prepared.Ready plans.Service (answers.Service (record { 0 = count })))
+unfolding effect answer_to
+service_prepared keep t count fits room is =
+    let done = service_does (records_of t) room in (
+      done,
+      ap (λ (n : ℕ). answers.Service (record { 0 = n })) (sym is),
+      record { few = ltb-true _ _ room; fits = keep (records_of t) changes.Service done fits; leads = refl },
+      refl,
+    )
+
+-- ---- orders
+
+orders_does : (r : Records) (service : ServiceNo) (orders : Orders) → list_all (has_service r) (services_named service orders) ≡ true →
+    does r (changes.Orders service orders) ≡ Ok (has_orders r service orders)
+unfolding needs is_idle
+orders_does r service orders there = rw there refl
+
+pub orders_unknown : (r : Records) (service : ServiceNo) (orders : Orders) → list_all (has_service r) (services_named service orders) ≡ false →
+    does r (changes.Orders service orders) ≡ Err whys.UnknownService
+unfolding needs
+orders_unknown r service orders there = rw there refl
+
+pub orders_idle : (t : TablesView) (service : ServiceNo) (orders : Orders) → list_all (has_service (records_of t)) (services_named service orders) ≡ true →
+    has_orders (records_of t) service orders ≡ true → IsPrepared (changes.Orders service orders) t (prepared.Idle (answers.Service service))
+unfolding answer_to
+orders_idle t service orders there same = (orders_does (records_of t) service orders there ∙ ap Ok same, refl)
+
+pub orders_prepared : ChangesKeepFit → (t : TablesView) (service : ServiceNo) (orders : Orders) → Fits (records_of t) →
+    list_all (has_service (records_of t)) (services_named service orders) ≡ true → service.0 < length t.services → has_orders (records_of t) service orders ≡ false →
+    IsPrepared (changes.Orders service orders) t (prepared.Ready (plans.Orders (record { service = service; orders = orders })) (answers.Service service))
+unfolding effect answer_to
+orders_prepared keep t service orders fits there known other =
+    let done = orders_does (records_of t) service orders there ∙ ap Ok other in (
+      done,
+      refl,
+      record { known = known; fits = keep (records_of t) (changes.Orders service orders) done fits; leads = refl },
+      refl,
+    )
+
+-- ---- mappings
+
+-- file and service are there
+pub record IsOfThere (r : Records) (m : Mapping) : Type 0 where
+  pub file : has_file r m.file ≡ true
+  pub service : has_service r m.service ≡ true
+
+-- what is left to be met of a mapping then
+there_does : (r : Records) (m : Mapping) → IsOfThere r m → does r (changes.Mapping m) ≡ guarded (is_met r) unmet (mapping_needs m m.state) (is_mapped_so r m)
+unfolding needs is_idle
+there_does r m there = rw (there.file, there.service) refl
+
+pub no_file : (r : Records) (m : Mapping) → has_file r m.file ≡ false → does r (changes.Mapping m) ≡ Err whys.UnknownFile
+unfolding needs
+no_file r m none = rw none refl
+
+pub no_service : (r : Records) (m : Mapping) → has_file r m.file ≡ true → has_service r m.service ≡ false → does r (changes.Mapping m) ≡ Err whys.UnknownService
+unfolding needs
+no_service r m file none = rw (file, none) refl
+
+set_needs : (m : Mapping) (state : Option MapState) → is_some state ≡ true → mapping_needs m state ≡ room_for_tag m.tag ∷ room_for_mapping m ∷ []
+set_needs m (Some state) is = refl
+set_needs m None is = absurd (cc is)
+
+taken_needs : (m : Mapping) (state : Option MapState) → is_some state ≡ false → mapping_needs m state ≡ tag_there m.tag ∷ []
+taken_needs m (Some state) is = absurd (cc is)
+taken_needs m None is = refl
+
+set_does : (r : Records) (m : Mapping) → IsOfThere r m → is_some m.state ≡ true →
+    does r (changes.Mapping m) ≡ guarded (is_met r) unmet (room_for_tag m.tag ∷ room_for_mapping m ∷ []) (is_mapped_so r m)
+set_does r m there is = there_does r m there ∙ ap (λ (left : List Need). guarded (is_met r) unmet left (is_mapped_so r m)) (set_needs m m.state is)
+
+taken_does : (r : Records) (m : Mapping) → IsOfThere r m → is_some m.state ≡ false →
+    does r (changes.Mapping m) ≡ guarded (is_met r) unmet (tag_there m.tag ∷ []) (is_mapped_so r m)
+taken_does r m there is = there_does r m there ∙ ap (λ (left : List Need). guarded (is_met r) unmet left (is_mapped_so r m)) (taken_needs m m.state is)
+
+pub no_tag_room : (r : Records) (m : Mapping) → IsOfThere r m → is_some m.state ≡ true → has_tag r m.tag ≡ false → nat_lt (length r.tags) MAX_TAGS ≡ false →
+    does r (changes.Mapping m) ≡ Err whys.FullTags
+no_tag_room r m there is new full = set_does r m there is ∙ rw (new, full) refl
+
+pub no_mapping_room : (r : Records) (m : Mapping) → IsOfThere r m → is_some m.state ≡ true → has_tag r m.tag || nat_lt (length r.tags) MAX_TAGS ≡ true →
+    has_mapping r m ≡ false → nat_lt (length r.mappings) MAX_MAPPINGS ≡ false → does r (changes.Mapping m) ≡ Err whys.FullMappings
+no_mapping_room r m there is room new full = set_does r m there is ∙ rw (room, new, full) refl
+
+pub no_such_tag : (r : Records) (m : Mapping) → IsOfThere r m → is_some m.state ≡ false → has_tag r m.tag ≡ false → does r (changes.Mapping m) ≡ Err whys.UnknownTag
+no_such_tag r m there is new = taken_does r m there is ∙ rw new refl
+
+pub set_met : (r : Records) (m : Mapping) → IsOfThere r m → is_some m.state ≡ true → has_tag r m.tag || nat_lt (length r.tags) MAX_TAGS ≡ true →
+    has_mapping r m || nat_lt (length r.mappings) MAX_MAPPINGS ≡ true → does r (changes.Mapping m) ≡ Ok (is_mapped_so r m)
+set_met r m there is tag mapping = set_does r m there is ∙ rw (tag, mapping) refl
+
+pub taken_met : (r : Records) (m : Mapping) → IsOfThere r m → is_some m.state ≡ false → has_tag r m.tag ≡ true → does r (changes.Mapping m) ≡ Ok (is_mapped_so r m)
+taken_met r m there is tag = taken_does r m there is ∙ rw tag refl
+
+set_told : (r : Records) (m : Mapping) (state : Option MapState) → is_some state ≡ true →
+    mapping_told r m state ≡ answers.Mapped (record { tag = numbered r m.tag; changed = not (is_mapped_so r m) })
+set_told r m (Some state) is = refl
+set_told r m None is = absurd (cc is)
+
+taken_told : (r : Records) (m : Mapping) (state : Option MapState) → is_some state ≡ false → mapping_told r m state ≡ answers.Changed (not (is_mapped_so r m))
+taken_told r m (Some state) is = absurd (cc is)
+taken_told r m None is = refl
+
+pub set_answer : (r : Records) (m : Mapping) → is_some m.state ≡ true →
+    answer_to r (changes.Mapping m) ≡ answers.Mapped (record { tag = numbered r m.tag; changed = not (is_mapped_so r m) })
+unfolding answer_to
+set_answer r m is = set_told r m m.state is
+
+pub taken_answer : (r : Records) (m : Mapping) → is_some m.state ≡ false → answer_to r (changes.Mapping m) ≡ answers.Changed (not (is_mapped_so r m))
+unfolding answer_to
+taken_answer r m is = taken_told r m m.state is
+
+-- a mapping that is ready to be made
+pub mapping_prepared : ChangesKeepFit → (t : TablesView) (m : Mapping) (plan : PlannedMapping) (answer : _) → Fits (records_of t) →
+    does (records_of t) (changes.Mapping m) ≡ Ok false → answer_to (records_of t) (changes.Mapping m) ≡ answer → IsReady plan m t →
+    IsPrepared (changes.Mapping m) t (prepared.Ready (plans.Mapping plan) answer)
+unfolding effect
+mapping_prepared keep t m plan answer fits done told ready = (
+  done,
+  told,
+  record { mapping = m; ready = ready; fits = keep (records_of t) (changes.Mapping m) done fits; leads = refl },
+  refl,
+)
+
+-- a text that has a number or for which there is room has a place
+pub place_for : (text : List ℕ) (texts : List (List ℕ)) → is_some (number_of text texts) || nat_lt (length texts) MAX_TAGS ≡ true → HasPlaceFor text texts
+place_for text texts is = by_test (is_some (number_of text texts)) refl is where
+  by_test : (known : Bool) → is_some (number_of text texts) ≡ known → known || nat_lt (length texts) MAX_TAGS ≡ true → HasPlaceFor text texts
+  by_test true known room = inl ((tagged text texts).1 ((numbered_there text texts).0 known))
+  by_test false known room = inr (ltb-true _ _ room)
