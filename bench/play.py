@@ -23,6 +23,9 @@ HERE = pathlib.Path(__file__).resolve().parent
 TOP = HERE.parent
 ROUNDS = 3
 SEARCHED = 20_000
+TAGGED = 100_000
+MAPPED = 1_000_000
+TAGS = 10_000
 REGISTRY = pathlib.Path("/usr/share/cargo/registry")
 
 
@@ -98,6 +101,17 @@ def decisions(files, count):
     return "".join(lines)
 
 
+def mappings(files, count):
+    """Current mappings of 10,000 tags, each line another one; the tags of a file lie far apart."""
+    lines = []
+    for number in range(count):
+        tag = (number * 7919 + number // files) % TAGS
+        lines.append(
+            '{"do":"map","service":0,"tag":"series:tag %d","file":%d,"state":"current"}\n' % (tag, number % files)
+        )
+    return "".join(lines)
+
+
 def seconds(command, path):
     best = None
     for _ in range(ROUNDS):
@@ -154,6 +168,28 @@ def report(title, lines, times):
             print("  medialib takes %.2f times as long as %s" % (times["medialib"] / taken, name))
 
 
+def tell_steps(taken, names):
+    """What one more line of a kind takes, and twice as many."""
+
+    def more(title, less, name="medialib"):
+        return taken[title][name] - taken[less][name]
+
+    deleting = more(
+        "the same, and deletions that are taken back",
+        "imports with hashes in clusters, and their search jobs",
+    )
+    print("a deletion or its taking back takes %.0f us" % (deleting / (2 * (SEARCHED // 10)) * 1e6))
+    mapping = {name: more("the same, and their mappings", "files to be tagged", name) for name in names}
+    for name, time_taken in mapping.items():
+        print("a mapping takes %.2f us in %s" % (time_taken / MAPPED * 1e6, name))
+    if "peer" in mapping:
+        print("mappings go at %.2f of the speed of the peer" % (mapping["peer"] / mapping["medialib"]))
+    twice = more("twice the mappings", "files to be tagged") / mapping["medialib"]
+    print("twice the mappings take %.2f times as long" % twice)
+    for title, less in [("twice the imports", "imports"), ("twice the files and decisions", "decisions")]:
+        print("%s take %.2f times as long" % (title, taken[title]["medialib"] / taken[less]["medialib"]))
+
+
 def main():
     count = int(sys.argv[1]) if len(sys.argv) > 1 else 100_000
     decided = int(sys.argv[2]) if len(sys.argv) > 2 else 2_000
@@ -175,6 +211,9 @@ def main():
                 with_hashes(clustered_words(SEARCHED)) + searches(SEARCHED) + deletions(SEARCHED),
                 SEARCHED + SEARCHED // 1024 + 1 + 2 * (SEARCHED // 10),
             ),
+            "files to be tagged": (imports(TAGGED), TAGGED),
+            "the same, and their mappings": (imports(TAGGED) + mappings(TAGGED, MAPPED), TAGGED + MAPPED),
+            "twice the mappings": (imports(TAGGED) + mappings(TAGGED, 2 * MAPPED), TAGGED + 2 * MAPPED),
             "decisions": (imports(decided) + decisions(decided, decided), 2 * decided),
             "twice the files and decisions": (
                 imports(2 * decided) + decisions(2 * decided, 2 * decided),
@@ -188,18 +227,9 @@ def main():
             with open(path, "w") as out:
                 out.write(text)
             times = {name: seconds(command, path) for name, command in commands.items()}
-            taken[title] = times["medialib"]
+            taken[title] = times
             report(title, lines, times)
-        more = (
-            taken["the same, and deletions that are taken back"]
-            - taken["imports with hashes in clusters, and their search jobs"]
-        )
-        print("a deletion or its taking back takes %.0f us" % (more / (2 * (SEARCHED // 10)) * 1e6))
-        print("twice the imports take %.2f times as long" % (taken["twice the imports"] / taken["imports"]))
-        print(
-            "twice the files and decisions take %.2f times as long"
-            % (taken["twice the files and decisions"] / taken["decisions"])
-        )
+        tell_steps(taken, list(commands))
 
 
 if __name__ == "__main__":

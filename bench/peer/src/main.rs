@@ -1,12 +1,25 @@
-//! Answers import, decide (code 4) and relations lines as medialib does, with nothing proved: the peer
-//! of bench/play.py.
+//! Answers import, decide (code 4), relations, map and mappings lines as medialib does, with nothing proved:
+//! the peer of bench/play.py.
 
 use serde_json::{json, Value};
-use std::collections::HashMap;
+use std::collections::{BTreeMap, BTreeSet, HashMap};
 use std::io::{self, BufRead, BufWriter, Write};
+
+#[derive(Clone, Copy, PartialEq)]
+enum State {
+    Current,
+    Pending,
+    Deleted,
+}
 
 #[derive(Default)]
 struct Library {
+    tags: HashMap<String, u64>,
+    texts: Vec<String>,
+    /// By service, file and tag.
+    mappings: BTreeMap<(u64, usize, u64), State>,
+    /// By service, tag and file.
+    mapped: BTreeSet<(u64, u64, usize)>,
     files: HashMap<String, u64>,
     kings: Vec<usize>,
     members: HashMap<usize, Vec<usize>>,
@@ -69,6 +82,48 @@ impl Library {
         Some(json!({"king": king, "members": members, "alternates": [], "not_related": []}))
     }
 
+    fn tag(&mut self, text: &str) -> u64 {
+        let words: Vec<&str> = text.split_whitespace().collect();
+        let text = words.join(" ").to_ascii_lowercase();
+        if let Some(tag) = self.tags.get(&text) {
+            return *tag;
+        }
+        let tag = self.texts.len() as u64;
+        self.tags.insert(text.clone(), tag);
+        self.texts.push(text);
+        tag
+    }
+
+    fn map(&mut self, request: &Value) -> Option<Value> {
+        let service = request["service"].as_u64()?;
+        let text = request["tag"].as_str()?;
+        let file = self.file(&request["file"])?;
+        let state = match request["state"].as_str()? {
+            "current" => State::Current,
+            "pending" => State::Pending,
+            "deleted" => State::Deleted,
+            _ => return None,
+        };
+        let tag = self.tag(text);
+        let before = self.mappings.insert((service, file, tag), state);
+        self.mapped.insert((service, tag, file));
+        Some(json!({"tag": tag, "changed": before != Some(state)}))
+    }
+
+    fn mapped_in(&self, service: u64, file: usize, state: State) -> Vec<&str> {
+        let rows = self.mappings.range((service, file, 0)..=(service, file, u64::MAX));
+        rows.filter(|row| *row.1 == state)
+            .map(|row| self.texts[row.0 .2 as usize].as_str())
+            .collect()
+    }
+
+    fn mappings(&self, request: &Value) -> Option<Value> {
+        let service = request["service"].as_u64()?;
+        let file = self.file(&request["file"])?;
+        let told = |state| self.mapped_in(service, file, state);
+        Some(json!({"current": told(State::Current), "pending": told(State::Pending), "deleted": told(State::Deleted)}))
+    }
+
     fn answer(&mut self, line: &str) -> Value {
         let Ok(request) = serde_json::from_str::<Value>(line) else {
             return json!({"error": "not_json"});
@@ -77,6 +132,8 @@ impl Library {
             Some("import") => self.import(&request),
             Some("decide") => self.better(&request),
             Some("relations") => self.relations(&request),
+            Some("map") => self.map(&request),
+            Some("mappings") => self.mappings(&request),
             _ => None,
         };
         reply.unwrap_or_else(|| json!({"error": "not_a_request"}))

@@ -20,6 +20,7 @@ pub data CommandName : Type 0 where
   Decide : CommandName
   Undo : CommandName
   Relations : CommandName
+  Decision : CommandName
   Pairs : CommandName
   PairCount : CommandName
   SearchDistance : CommandName
@@ -36,7 +37,7 @@ search_names =
 
 abbrev pub all_names : List CommandName
 all_names =
-    CommandName.Import ∷ CommandName.Delete ∷ CommandName.Undelete ∷ CommandName.Decide ∷ CommandName.Undo ∷ CommandName.Relations
+    CommandName.Import ∷ CommandName.Delete ∷ CommandName.Undelete ∷ CommandName.Decide ∷ CommandName.Undo ∷ CommandName.Relations ∷ CommandName.Decision
     ∷ search_names
 
 -- a number of 32 bits, or of 64
@@ -66,6 +67,7 @@ request_of CommandName.Decide = record {
 }
 request_of CommandName.Undo = record { text = codes "undo"; fields = (fields.Decision, small) ∷ []; asked = λ decision. asks (commands.Do (changes.Undo (record { 0 = decision }))) }
 request_of CommandName.Relations = record { text = codes "relations"; fields = (fields.File, a_file) ∷ []; asked = λ file. asks (commands.Ask (queries.Relations file)) }
+request_of CommandName.Decision = record { text = codes "decision"; fields = (fields.Decision, small) ∷ []; asked = λ decision. asks (commands.Ask (queries.Decision (record { 0 = decision }))) }
 request_of CommandName.Pairs = record {
   text = codes "pairs";
   fields = (fields.AfterJ, a_file_beside fields.AfterK) ∷ (fields.AfterK, a_file_beside fields.AfterJ) ∷ (fields.N, large) ∷ (fields.AtMost, large) ∷ [];

@@ -5,11 +5,11 @@ ghost use Rattle.command_text.specs.Commands.{all_names, search_names};
 ghost use Rattle.command_text.specs.Reading.{first_at, value_command, text_command, line_command};
 
 use crate::decisions::{decide_of, undo_of};
-use crate::fields::{file, text};
+use crate::fields::{file, small_number, text};
 use crate::import::import_of;
 use crate::pairs::{pair_count_of, pairs_of};
 use crate::searches::{search_distance_of, search_files_of, search_job_of};
-use media_base::{Change, Command, FieldName, Query, Refusal, Upkeep};
+use media_base::{Change, Command, DecisionNo, FieldName, Query, Refusal, Upkeep};
 use serde_json::Value;
 use std::alloc::Global;
 
@@ -75,6 +75,10 @@ fn command_named(alloc: Global, name: &str, request: &Value) -> Result<Command, 
         "decide" => decide_of(request),
         "undo" => undo_of(request),
         "relations" => Ok(Command::Ask(Query::Relations(file(request, FieldName::File)?))),
+        "decision" => Ok(Command::Ask(Query::Decision(DecisionNo(small_number(
+            request,
+            FieldName::Decision,
+        )?)))),
         _ => search_command(alloc, name, request),
     }
 }

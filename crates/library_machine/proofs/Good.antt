@@ -24,10 +24,12 @@ use Rattle.relation_groups.specs.Relations.{AreAmong}
 use Rattle.library_machine.specs.Changing.{does, effect, is_idle, is_marked, needs}
 use Rattle.library_machine.specs.Guards.{AreMet}
 use Rattle.library_machine.specs.Needs.{Met, is_met, unmet}
-use Rattle.library_machine.specs.Records.{Records, Fits, IsThere, IsNew, IsRecorded}
+use Rattle.library_machine.specs.Records.{Records, Fits, TagsFit, IsThere, IsNew, IsRecorded}
 use Rattle.library_machine.specs.Searches.{after_search, is_empty, risen}
+use Rattle.library_machine.specs.Tagging.{with_mapping, with_orders, with_service}
 use Rattle.library_machine.proofs.Below.{NotFound, OneMore, NearOneMore, MarkSameLength, MarkStaysDistinct, MarkSameNear, MarkChanges, SameLength, StayDistinct, NoneRises, SameDecisions, SameRecorded}
 use Rattle.library_machine.proofs.Meeting.{all_met, means, none_there, one_file}
+use Rattle.library_machine.proofs.Tagged.{fit_more_files, service_fit, orders_fit, orders_other, mapping_fits, mapping_other}
 
 pub record IsGood (r : Records) (c : Change) : Type 0 where
   pub fits : Fits r → Fits (effect r c)
@@ -59,6 +61,7 @@ file_good one_more near_one_more r file new (inr room) fits = record {
   distinct = one_more (row_of file) r.files fits.distinct new;
   among = among_more (length r.files) _ _ (omega (arith, length-append r.files)) fits.among;
   of_two = fits.of_two;
+  tags = fit_more_files (length r.files) _ r (omega (arith, length-append r.files)) fits.tags;
 }
 
 -- ---- marks
@@ -73,6 +76,7 @@ mark_good same_length stays_distinct same_near r file live fits = record {
   distinct = stays_distinct file.0 live r.files fits.distinct;
   among = rw (same_length file.0 live r.files) fits.among;
   of_two = fits.of_two;
+  tags = rw (same_length file.0 live r.files) fits.tags;
 }
 
 -- a file that is there has a row
@@ -112,6 +116,7 @@ decision_good r d a b two room fits = record {
   of_two =
       let OfTwo : Decision → Type 0 = λ e. e.a.0 ≢ e.b.0 in
       rw map-append (All-push OfTwo (map book.decision_of r.decisions) d fits.of_two (λ e. two (one_file d.a d.b e)));
+  tags = fits.tags;
 }
 
 undoing_good : SameDecisions → SameRecorded → (r : Records) (n : DecisionNo) → Fits r → Fits (record r { decisions = undone_at n.0 r.decisions })
@@ -122,6 +127,7 @@ undoing_good same_decisions same_recorded r n fits = record {
   distinct = fits.distinct;
   among = rw (same_decisions n.0 r.decisions) fits.among;
   of_two = rw (same_decisions n.0 r.decisions) fits.of_two;
+  tags = fits.tags;
 }
 
 -- the row of an undone decision is another one
@@ -146,6 +152,7 @@ distance_good r d fits = record {
   distinct = fits.distinct;
   among = fits.among;
   of_two = fits.of_two;
+  tags = fits.tags;
 }
 
 search_good : SameLength → StayDistinct → (r : Records) (s : Searching) → is_empty (risen r s) ≡ false →
@@ -158,11 +165,27 @@ search_good same_length stay_distinct r s fresh (inr room) fits = record {
   distinct = stay_distinct s.distance s.files r.files fits.distinct;
   among = rw (same_length s.distance s.files r.files) fits.among;
   of_two = fits.of_two;
+  tags = rw (same_length s.distance s.files r.files) fits.tags;
 }
 
 search_other : NoneRises → (r : Records) (s : Searching) → is_empty (risen r s) ≡ false → after_search r s ≢ r
 search_other none_rises r s fresh same =
     both_ways _ fresh ((none_there (risen r s)).1 ((none_rises s.distance s.files r.files).1 (ap files_of same)))
+
+-- ---- tags
+
+-- records that differ in tags, services and mappings alone
+with_tags : (r s : Records) → s.files ≡ r.files → s.decisions ≡ r.decisions → s.distance ≡ r.distance
+    → TagsFit (length r.files) s.tags s.services s.mappings → Fits r → Fits s
+with_tags r s files decisions distance tags fits = record {
+  few_files = rw files fits.few_files;
+  few_decisions = rw decisions fits.few_decisions;
+  few_near = rw files fits.few_near;
+  distinct = rw files fits.distinct;
+  among = rw (files, decisions) fits.among;
+  of_two = rw decisions fits.of_two;
+  tags = rw files tags;
+}
 
 -- ---- all changes
 
@@ -207,6 +230,18 @@ good laws r (changes.Distance d) met fresh = record {
 good laws r (changes.Searched s) met fresh = record {
   fits = search_good laws.same_length laws.stay_distinct r s fresh met.1.0;
   other = search_other laws.none_rises r s fresh;
+}
+good laws r changes.Service met fresh = record {
+  fits = λ fits. with_tags r (with_service r) refl refl refl (service_fit r met.0 fits.tags) fits;
+  other = λ same. longer r.services _ (ap (λ (s : Records). s.services) same);
+}
+good laws r (changes.Orders service orders) met fresh = record {
+  fits = λ fits. with_tags r (with_orders r service orders) refl refl refl (orders_fit r service orders fits.tags) fits;
+  other = orders_other r service orders (met.0 0 service (omega arith)) fresh;
+}
+good laws r (changes.Mapping m) met fresh = record {
+  fits = λ fits. with_tags r (with_mapping r m) refl refl refl (mapping_fits r m met.0 met.1.0 met.1.1 fits.tags) fits;
+  other = mapping_other r m fresh;
 }
 
 pub lawful_good : Laws → (r : Records) (c : Change) → does r c ≡ Ok false → IsGood r c

@@ -1,5 +1,6 @@
 pub mod Below
 pub mod Meeting
+pub mod Tagged
 pub mod Good
 pub mod Sound
 pub mod Causes

@@ -9,12 +9,14 @@ use Rattle.std.proofs.lemmas.Option.{same_Some}
 use Rattle.media_types.specs.declared.hash.Sha.{Sha}
 use Rattle.media_types.specs.declared.numbers.DecisionNo.{DecisionNo}
 use Rattle.media_types.specs.declared.numbers.FileNo.{FileNo}
+use Rattle.media_types.specs.declared.numbers.ServiceNo.{ServiceNo}
 use Rattle.media_base.specs.declared.refusal.Unmet.{Unmet}
 use Rattle.file_records.specs.Lookup.{file_with}
 use Rattle.decision_book.specs.declared.decision_row.DecisionRow.{DecisionRow}
 use Rattle.library_machine.specs.Guards.{guarded, IsFirstUnmet, AreMet}
-use Rattle.library_machine.specs.Needs.{Need, file_there, files_there, two_files, decision_there, not_undone, room_for_file, room_for_near, room_for_decision, has_file, is_met, Met}
-use Rattle.library_machine.specs.Records.{Records, IsThere, IsNew, IsRecorded}
+use Rattle.tag_store.specs.NumberingLaws.{numbered_there}
+use Rattle.library_machine.specs.Needs.{Need, file_there, files_there, two_files, decision_there, not_undone, room_for_file, room_for_near, room_for_decision, service_there, services_there, tag_there, room_for_tag, room_for_mapping, room_for_service, has_file, has_service, is_met, Met}
+use Rattle.library_machine.specs.Records.{Records, IsThere, IsNew, IsRecorded, IsService}
 use Rattle.library_machine.specs.Searches.{is_empty, risen}
 use Rattle.library_machine.proofs.Below.{NotFound}
 
@@ -62,6 +64,16 @@ known_by not_found r sha (Some at) is = (λ e new. let none = (not_found sha r.f
 pub none_there : (fs : List FileNo) → Says (is_empty fs) (fs ≡ [])
 none_there fs = (λ e. nil_from_length fs (eqb-true _ _ e), λ e. eq-eqb _ _ (ap length e))
 
+all_services : (r : Records) (services : List ServiceNo) → Says (list_all (has_service r) services) (All (IsService r) services)
+all_services r services = (
+  λ e k d lt. ltb-true _ _ (AllPass-from_list_all (has_service r) services e k d lt),
+  λ there. list_all-from_AllPass (has_service r) services (λ k d lt. lt-ltb _ _ (there k d lt)),
+)
+
+some_there : {A : Type 0} (found : Option A) → Says (is_some found) (found ≢ None)
+some_there None = (λ e. absurd (cc e), λ some. absurd (some refl))
+some_there (Some x) = (λ e none. cc none, λ some. refl)
+
 -- one line for each kind of need
 pub means : NotFound → (r : Records) (need : Need) → Says (is_met r need) (Met r need)
 means not_found r (file_there f) = less _ _
@@ -72,6 +84,12 @@ means not_found r (not_undone n) = stands_by r n _ refl
 means not_found r (room_for_file sha) = either _ _ (known_by not_found r sha _ refl) (less _ _)
 means not_found r (room_for_near s) = either _ _ (none_there (risen r s)) (at_most _ _)
 means not_found r room_for_decision = less _ _
+means not_found r (service_there service) = less _ _
+means not_found r (services_there services) = all_services r services
+means not_found r (tag_there text) = numbered_there text r.tags
+means not_found r (room_for_tag text) = either _ _ (numbered_there text r.tags) (less _ _)
+means not_found r (room_for_mapping m) = either _ _ (some_there _) (less _ _)
+means not_found r room_for_service = less _ _
 
 -- ---- needs in order
 

@@ -3,6 +3,7 @@ use Rattle.std.specs.Prelude.{ℕ, Bool, true, false, ◌==◌, not, if◌then�
 use Rattle.media_types.specs.declared.numbers.FileNo.{FileNo}
 use Rattle.media_base.specs.declared.change.Change.{Change}
 use Rattle.media_base.specs.declared.change.Change.TheVariants as changes
+use Rattle.media_base.specs.declared.change.Mapping.{Mapping}
 use Rattle.media_base.specs.declared.refusal.Unmet.{Unmet}
 use Rattle.media_base.specs.declared.reply.Answer.{Answer}
 use Rattle.media_base.specs.declared.reply.Answer.TheVariants as answers
@@ -15,9 +16,16 @@ use Rattle.file_records.specs.Rows.{row_of}
 use Rattle.decision_book.specs.Recorded.{undone_at}
 use Rattle.decision_book.specs.Standing as book
 use Rattle.library_machine.specs.Guards.{guarded}
-use Rattle.library_machine.specs.Needs.{Need, file_there, files_there, two_files, decision_there, not_undone, room_for_file, room_for_near, room_for_decision, is_known, is_met, unmet}
+use Rattle.tag_types.specs.declared.map_state.MapState.{MapState}
+use Rattle.library_machine.specs.Needs.{Need, file_there, files_there, two_files, decision_there, not_undone, room_for_file, room_for_near, room_for_decision, service_there, services_there, tag_there, room_for_tag, room_for_mapping, room_for_service, is_known, is_met, unmet}
 use Rattle.library_machine.specs.Records.{Records}
 use Rattle.library_machine.specs.Searches.{after_search, counts, is_empty, risen}
+use Rattle.library_machine.specs.Tagging.{has_orders, is_mapped_so, mapping_told, next_service, services_named, with_mapping, with_orders, with_service}
+
+-- A tag that is mapped may be new; one whose mapping is taken away is there.
+abbrev pub mapping_needs : Mapping → Option MapState → List Need
+mapping_needs m (Some state) = room_for_tag m.tag ∷ room_for_mapping m ∷ []
+mapping_needs m None = tag_there m.tag ∷ []
 
 -- the needs in the order of their refusals
 unfoldable pub needs : Change → List Need
@@ -27,6 +35,9 @@ needs (changes.Decision d) = file_there d.a ∷ file_there d.b ∷ two_files d �
 needs (changes.Undo n) = decision_there n ∷ not_undone n ∷ []
 needs (changes.Distance d) = []
 needs (changes.Searched s) = files_there s.files ∷ room_for_near s ∷ []
+needs changes.Service = room_for_service ∷ []
+needs (changes.Orders service orders) = services_there (services_named service orders) ∷ []
+needs (changes.Mapping m) = file_there m.file ∷ service_there m.service ∷ mapping_needs m m.state
 
 -- whether the file's mark is this one
 abbrev pub is_marked : Records → FileNo → Bool → Bool
@@ -41,6 +52,9 @@ is_idle r (changes.Decision d) = false
 is_idle r (changes.Undo n) = false
 is_idle r (changes.Distance d) = r.distance == d
 is_idle r (changes.Searched s) = is_empty (risen r s)
+is_idle r changes.Service = false
+is_idle r (changes.Orders service orders) = has_orders r service orders
+is_idle r (changes.Mapping m) = is_mapped_so r m
 
 -- What is recorded then, where it isn't idle. A marked file keeps all else; an undone decision keeps its number; and
 -- how far each file was searched stays when the distance changes.
@@ -51,6 +65,9 @@ effect r (changes.Decision d) = record r { decisions = r.decisions ++ book.row_o
 effect r (changes.Undo n) = record r { decisions = undone_at n.0 r.decisions }
 effect r (changes.Distance d) = record r { distance = d }
 effect r (changes.Searched s) = after_search r s
+effect r changes.Service = with_service r
+effect r (changes.Orders service orders) = with_orders r service orders
+effect r (changes.Mapping m) = with_mapping r m
 
 -- what an import finds of the known file of number k
 abbrev pub known_status : List FileRow → ℕ → ImportStatus
@@ -68,6 +85,9 @@ answer_to r (changes.Decision d) = answers.Decided (record { 0 = length r.decisi
 answer_to r (changes.Undo n) = answers.Undone n
 answer_to r (changes.Distance d) = answers.Distance d
 answer_to r (changes.Searched s) = counts (risen r s) (after_search r s)
+answer_to r changes.Service = answers.Service (next_service r)
+answer_to r (changes.Orders service orders) = answers.Service service
+answer_to r (changes.Mapping m) = mapping_told r m m.state
 
 -- whether the change would change nothing, or why it is refused
 abbrev pub does : Records → Change → Result Bool Unmet

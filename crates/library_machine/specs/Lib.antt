@@ -11,6 +11,7 @@ pub mod Records
 pub mod Searches
 pub mod Session
 pub mod Step
+pub mod Tagging
 pub mod Worked
 pub use Rattle.media_base.specs.Names
 pub use Rattle.media_base.specs.Replying
@@ -25,3 +26,6 @@ pub use Rattle.decision_book.specs.Standing
 pub use Rattle.relation_groups.specs.Relations
 pub use Rattle.potential_pairs.specs.Pages
 pub use Rattle.potential_pairs.specs.Potential
+pub use Rattle.tag_store.specs.Mapped
+pub use Rattle.tag_store.specs.Numbering
+pub use Rattle.tag_store.specs.Serving

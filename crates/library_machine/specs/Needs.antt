@@ -1,6 +1,6 @@
 -- What has to be so of the records for a command to be done: as a test, in plain words, and what is told where it
 -- isn't so.
-use Rattle.std.specs.Prelude.{◌≡◌, ◌≢◌, ◌<◌, ◌≤◌, ◌⊎◌, Bool, false, ◌==◌, ◌||◌, not, List, [], length, nat_lt, slice_get, is_some, All}
+use Rattle.std.specs.Prelude.{ℕ, None, ◌≡◌, ◌≢◌, ◌<◌, ◌≤◌, ◌⊎◌, Bool, false, ◌==◌, ◌||◌, not, List, [], length, nat_lt, slice_get, is_some, All}
 use Rattle.std.specs.List.{list_all}
 use Rattle.std.specs.Option.{option_map_or}
 use Rattle.media_types.specs.declared.decision.Decision.{Decision}
@@ -8,13 +8,18 @@ use Rattle.media_types.specs.declared.hash.Sha.{Sha}
 use Rattle.media_types.specs.declared.limits.TheConstants.{MAX_DECISIONS, MAX_FILES, MAX_NEAR}
 use Rattle.media_types.specs.declared.numbers.DecisionNo.{DecisionNo}
 use Rattle.media_types.specs.declared.numbers.FileNo.{FileNo}
+use Rattle.media_types.specs.declared.numbers.ServiceNo.{ServiceNo}
 use Rattle.media_types.specs.declared.searching.Searching.{Searching}
+use Rattle.media_base.specs.declared.change.Mapping.{Mapping}
 use Rattle.media_base.specs.declared.refusal.Unmet.{Unmet}
 use Rattle.media_base.specs.declared.refusal.Unmet.TheVariants as whys
 use Rattle.file_records.specs.Lookup.{file_with}
 use Rattle.file_records.specs.Near.{near_pairs}
-use Rattle.library_machine.specs.Records.{Records, IsThere, IsNew, IsRecorded}
+use Rattle.tag_types.specs.declared.limits.TheConstants.{MAX_MAPPINGS, MAX_SERVICES, MAX_TAGS}
+use Rattle.tag_store.specs.Numbering.{number_of}
+use Rattle.library_machine.specs.Records.{Records, IsThere, IsNew, IsRecorded, IsService, IsTagged}
 use Rattle.library_machine.specs.Searches.{after_search, has_room_for_near, is_empty, risen}
+use Rattle.library_machine.specs.Tagging.{mapped}
 
 pub data Need : Type 0 where
   file_there : FileNo → Need
@@ -27,12 +32,31 @@ pub data Need : Type 0 where
   -- for the pairs that this search finds
   room_for_near : Searching → Need
   room_for_decision : Need
+  service_there : ServiceNo → Need
+  services_there : List ServiceNo → Need
+  -- a tag of this text
+  tag_there : List ℕ → Need
+  -- for the tag of this text, where it is new
+  room_for_tag : List ℕ → Need
+  -- for this mapping, where it is new
+  room_for_mapping : Mapping → Need
+  room_for_service : Need
 
 abbrev pub has_file : Records → FileNo → Bool
 has_file r f = nat_lt f.0 (length r.files)
 
 abbrev pub is_known : Records → Sha → Bool
 is_known r sha = is_some (file_with sha r.files)
+
+abbrev pub has_service : Records → ServiceNo → Bool
+has_service r service = nat_lt service.0 (length r.services)
+
+abbrev pub has_tag : Records → List ℕ → Bool
+has_tag r text = is_some (number_of text r.tags)
+
+-- the text is mapped to the file in the service, in any state
+abbrev pub has_mapping : Records → Mapping → Bool
+has_mapping r m = is_some (mapped r m.service m.tag m.file)
 
 abbrev pub is_met : Records → Need → Bool
 is_met r (file_there f) = has_file r f
@@ -43,6 +67,12 @@ is_met r (not_undone n) = option_map_or (λ row. not row.undone) (slice_get r.de
 is_met r (room_for_file sha) = is_known r sha || nat_lt (length r.files) MAX_FILES
 is_met r (room_for_near s) = is_empty (risen r s) || has_room_for_near (after_search r s)
 is_met r room_for_decision = nat_lt (length r.decisions) MAX_DECISIONS
+is_met r (service_there service) = has_service r service
+is_met r (services_there services) = list_all (has_service r) services
+is_met r (tag_there text) = has_tag r text
+is_met r (room_for_tag text) = has_tag r text || nat_lt (length r.tags) MAX_TAGS
+is_met r (room_for_mapping m) = has_mapping r m || nat_lt (length r.mappings) MAX_MAPPINGS
+is_met r room_for_service = nat_lt (length r.services) MAX_SERVICES
 
 -- the same in plain words
 abbrev pub Met : Records → Need → Type 0
@@ -54,6 +84,12 @@ Met r (not_undone n) = IsRecorded r n false
 Met r (room_for_file sha) = (¬ IsNew r sha) ⊎ (length r.files < MAX_FILES)
 Met r (room_for_near s) = (risen r s ≡ []) ⊎ (length (near_pairs (after_search r s).files) ≤ MAX_NEAR)
 Met r room_for_decision = length r.decisions < MAX_DECISIONS
+Met r (service_there service) = IsService r service
+Met r (services_there services) = All (IsService r) services
+Met r (tag_there text) = IsTagged r text
+Met r (room_for_tag text) = IsTagged r text ⊎ (length r.tags < MAX_TAGS)
+Met r (room_for_mapping m) = (mapped r m.service m.tag m.file ≢ None) ⊎ (length r.mappings < MAX_MAPPINGS)
+Met r room_for_service = length r.services < MAX_SERVICES
 
 abbrev pub unmet : Need → Unmet
 unmet (file_there f) = whys.UnknownFile
@@ -64,3 +100,9 @@ unmet (not_undone n) = whys.AlreadyUndone
 unmet (room_for_file sha) = whys.FullFiles
 unmet (room_for_near s) = whys.FullNear
 unmet room_for_decision = whys.FullDecisions
+unmet (service_there service) = whys.UnknownService
+unmet (services_there services) = whys.UnknownService
+unmet (tag_there text) = whys.UnknownTag
+unmet (room_for_tag text) = whys.FullTags
+unmet (room_for_mapping m) = whys.FullMappings
+unmet room_for_service = whys.FullServices

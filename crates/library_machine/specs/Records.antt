@@ -1,9 +1,10 @@
 -- What a library records, and nothing else. All that it tells is computed from these lists.
-use Rattle.std.specs.Prelude.{◌≡◌, ◌<◌, ◌≤◌, ℕ, Bool, List, [], length, map, Some, slice_get}
+use Rattle.std.specs.Prelude.{◌≡◌, ◌<◌, ◌≤◌, ℕ, Bool, List, [], length, map, Some, IsSome, Contains, slice_get}
 use Rattle.media_types.specs.declared.hash.Sha.{Sha}
 use Rattle.media_types.specs.declared.limits.TheConstants.{FIRST_DISTANCE, MAX_DECISIONS, MAX_FILES, MAX_NEAR}
 use Rattle.media_types.specs.declared.numbers.DecisionNo.{DecisionNo}
 use Rattle.media_types.specs.declared.numbers.FileNo.{FileNo}
+use Rattle.media_types.specs.declared.numbers.ServiceNo.{ServiceNo}
 use Rattle.file_records.specs.declared.file_row.FileRow.{FileRow}
 use Rattle.file_records.specs.Lookup.{AreDistinct, IsUnknown}
 use Rattle.file_records.specs.Near.{near_pairs}
@@ -11,6 +12,11 @@ use Rattle.decision_book.specs.declared.decision_row.DecisionRow.{DecisionRow}
 use Rattle.decision_book.specs.Standing.{decision_of}
 use Rattle.relation_groups.specs.Laws.{AreOfTwo}
 use Rattle.relation_groups.specs.Relations.{AreAmong}
+use Rattle.tag_types.specs.declared.limits.TheConstants.{MAX_MAPPINGS, MAX_SERVICES, MAX_TAGS}
+use Rattle.tag_types.specs.declared.orders.Orders.{Orders}
+use Rattle.tag_store.specs.Mapped as mapped
+use Rattle.tag_store.specs.Numbering.{AreDistinctTexts}
+use Rattle.tag_store.specs.Serving.{first_services}
 
 pub record Records : Type 0 where
   -- in order of import
@@ -19,9 +25,38 @@ pub record Records : Type 0 where
   pub decisions : List DecisionRow
   -- within which files are searched for their duplicates
   pub distance : ℕ
+  -- cleaned texts, in order of first use
+  pub tags : List (List ℕ)
+  -- for each service whose pairs it takes
+  pub services : List Orders
+  -- by service, tag and file
+  pub mappings : List mapped.Row
 
 abbrev pub no_records : Records
-no_records = record { files = []; decisions = []; distance = FIRST_DISTANCE }
+no_records = record {
+  files = [];
+  decisions = [];
+  distance = FIRST_DISTANCE;
+  tags = [];
+  services = first_services;
+  mappings = [];
+}
+
+-- the service, the tag and the file are among so many
+pub record AreThere (services tags files s t f : ℕ) : Type 0 where
+  pub service : s < services
+  pub tag : t < tags
+  pub file : f < files
+
+-- What tags, services and mappings of so many files are: within the limits, with no two tags of one text, and each
+-- mapping is of a service, a tag and a file that are there.
+pub record TagsFit (files : ℕ) (tags : List (List ℕ)) (services : List Orders) (mappings : List mapped.Row) : Type 0 where
+  pub few_tags : length tags ≤ MAX_TAGS
+  pub few_services : length services ≤ MAX_SERVICES
+  pub few_mappings : length mappings ≤ MAX_MAPPINGS
+  pub distinct : AreDistinctTexts tags
+  pub ascend : mapped.Ascend mappings
+  pub there : (s t f : ℕ) → IsSome (mapped.state_of mappings s t f) → AreThere (length services) (length tags) files s t f
 
 -- What records of every session are: within the limits, with no two files of one SHA-256, and each
 -- decision is of two different files that are there.
@@ -32,6 +67,7 @@ pub record Fits (r : Records) : Type 0 where
   pub distinct : AreDistinct r.files
   pub among : AreAmong (length r.files) (map decision_of r.decisions)
   pub of_two : AreOfTwo (map decision_of r.decisions)
+  pub tags : TagsFit (length r.files) r.tags r.services r.mappings
 
 -- a file with this number is recorded
 abbrev pub IsThere : Records → FileNo → Type 0
@@ -40,6 +76,14 @@ IsThere r file = file.0 < length r.files
 -- no file has this SHA-256
 abbrev pub IsNew : Records → Sha → Type 0
 IsNew r sha = IsUnknown sha r.files
+
+-- a service with this number is there
+abbrev pub IsService : Records → ServiceNo → Type 0
+IsService r service = service.0 < length r.services
+
+-- a tag of this text is numbered
+abbrev pub IsTagged : Records → List ℕ → Type 0
+IsTagged r text = Contains r.tags text
 
 -- the decision of this number is recorded, and is undone or not
 abbrev pub IsRecorded : Records → DecisionNo → Bool → Type 0

@@ -3,6 +3,8 @@ use Rattle.std.specs.Prelude.{ℕ, Bool, true, false, List, [], map, replicate, 
 use Rattle.media_types.specs.declared.decision.Code.{Code}
 use Rattle.media_types.specs.declared.decision.Code.TheVariants.{Better}
 use Rattle.media_types.specs.declared.numbers.FileNo.{FileNo}
+use Rattle.media_types.specs.declared.numbers.ServiceNo.{ServiceNo}
+use Rattle.tag_types.specs.declared.map_state.MapState.{MapState}
 use Rattle.media_base.specs.declared.change.Change.TheVariants as changes
 use Rattle.media_base.specs.declared.command.Command.{Command}
 use Rattle.media_base.specs.declared.command.Command.TheVariants.{Ask, Do, Run, Tend}
@@ -103,6 +105,33 @@ undelete_of k = Do (changes.Live (file k) true)
 abbrev pub relations_of : ℕ → Command
 relations_of k = Ask (queries.Relations (file k))
 
+-- the question what decision n is
+abbrev pub decision_of : ℕ → Command
+decision_of n = Ask (queries.Decision (record { 0 = n }))
+
+-- a new service
+abbrev pub add_service : Command
+add_service = Do changes.Service
+
+abbrev pub services : List ℕ → List ServiceNo
+services numbers = map (λ n. record { 0 = n }) numbers
+
+-- service n takes the sibling pairs of these services, and the parent pairs of those
+abbrev pub orders_of : ℕ → List ℕ → List ℕ → Command
+orders_of n siblings parents = Do (changes.Orders (record { 0 = n }) (record { siblings = services siblings; parents = services parents }))
+
+-- the tag of this text is mapped to file k in service 0 so
+abbrev pub map_of : List ℕ → ℕ → MapState → Command
+map_of text k state = Do (changes.Mapping (record { service = record { 0 = 0 }; tag = text; file = file k; state = Some state }))
+
+-- and isn't mapped any more
+abbrev pub unmap_of : List ℕ → ℕ → Command
+unmap_of text k = Do (changes.Mapping (record { service = record { 0 = 0 }; tag = text; file = file k; state = None }))
+
+-- the question which tags are mapped to file k in service n
+abbrev pub mappings_of : ℕ → ℕ → Command
+mappings_of n k = Ask (queries.Mappings (record { 0 = n }) (file k))
+
 -- the refusals of a command in the order of their tests, but for a job, whose change has them
 abbrev pub refusals_of : Command → List Unmet
 refusals_of (Ask q) = map unmet (query_needs q)
@@ -136,6 +165,10 @@ imported k status = Ok (answers.Imported (record { file = file k; status = statu
 abbrev pub decided : ℕ → Reply
 decided n = Ok (answers.Decided (record { 0 = n }))
 
+-- the decision that is recorded, and whether it is undone
+abbrev pub recorded : Code → ℕ → ℕ → Bool → Reply
+recorded code a b undone = Ok (answers.Decision (record { code = code; a = file a; b = file b }) undone)
+
 -- decision n is undone now
 abbrev pub undone : ℕ → Reply
 undone n = Ok (answers.Undone (record { 0 = n }))
@@ -152,3 +185,15 @@ standing king members alternates not_related = Ok (answers.Relations (record {
 -- the file's king and the members of its group, where no other group is related to it
 abbrev pub grouped : ℕ → List ℕ → Reply
 grouped king members = standing king members [] []
+
+-- the service that was added, or whose orders were set
+abbrev pub served : ℕ → Reply
+served n = Ok (answers.Service (record { 0 = n }))
+
+-- the number of the tag that was mapped, and whether anything changed
+abbrev pub mapped : ℕ → Bool → Reply
+mapped n now = Ok (answers.Mapped (record { tag = record { 0 = n }; changed = now }))
+
+-- the tags of a file by the state of their mapping
+abbrev pub tagged : List (List ℕ) → List (List ℕ) → List (List ℕ) → Reply
+tagged current pending deleted = Ok (answers.Mappings (record { current = current; pending = pending; deleted = deleted }))

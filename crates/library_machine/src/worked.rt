@@ -1,9 +1,10 @@
-ghost use Rattle.std.specs.Prelude.{◌≡◌, true, false, [], ◌∷◌, map};
+ghost use Rattle.std.specs.Prelude.{◌≡◌, true, false, [], ◌∷◌, codes, map};
 ghost use Rattle.media_types.specs.declared.decision.Code.TheVariants.{Alternates, NotRelated, Same};
-ghost use Rattle.media_base.specs.declared.refusal.Unmet.TheVariants.{AlreadyUndone, FullDecisions, FullFiles, FullNear, SameFile, UnknownDecision, UnknownFile};
+ghost use Rattle.media_base.specs.declared.refusal.Unmet.TheVariants.{AlreadyUndone, FullDecisions, FullFiles, FullMappings, FullNear, FullServices, FullTags, SameFile, UnknownDecision, UnknownFile, UnknownService, UnknownTag};
 ghost use Rattle.media_base.specs.declared.reply.ImportStatus.TheVariants.{New, Known, Deleted};
+ghost use Rattle.tag_types.specs.declared.map_state.MapState.TheVariants.{Current, Pending, Deleted as Taken};
 ghost use Rattle.library_machine.specs.Session.{nothing, replies, replies_behind};
-ghost use Rattle.library_machine.specs.Worked.{decide_of, import_of, import_with, queued, queues, pairs_from, pairs_behind, count_within, counted, listed, search_of, search_next, searched, distance_of, within, better_than, delete_of, undelete_of, changed, rebalance, rebalanced, relations_of, undo_of, imported, decided, undone, grouped, standing, no, refusals_of};
+ghost use Rattle.library_machine.specs.Worked.{decide_of, import_of, import_with, queued, queues, pairs_from, pairs_behind, count_within, counted, listed, search_of, search_next, searched, distance_of, within, better_than, delete_of, undelete_of, changed, rebalance, rebalanced, relations_of, decision_of, undo_of, imported, decided, recorded, undone, grouped, standing, add_service, orders_of, map_of, unmap_of, mappings_of, served, mapped, tagged, no, refusals_of};
 
 /// Small sessions whose replies can be followed by hand. The call does nothing.
 #[tactic(auto, unfolding(crate::specs::Step::step, crate::specs::Step::admitted, crate::specs::Changing::needs, crate::specs::Changing::is_idle, crate::specs::Changing::effect, crate::specs::Changing::answer_to, crate::specs::Asking::query_needs, crate::specs::Asking::answer, crate::specs::Jobs::worked_out, crate::specs::Jobs::tended, file_records::specs::Searching::queue_of, file_records::specs::Searching::searched, file_records::specs::Searching::rising, file_records::specs::Near::near_at, spare_tables::specs::Pairs::pairs_below, potential_pairs::specs::Potential::potential_at, potential_pairs::specs::Pages::page_of, relation_groups::specs::Relations::relations_at))]
@@ -12,8 +13,11 @@ pub fn worked_rows()
     ensures refusals_in_order { map refusals_of (import_of 10 ∷ delete_of 0 ∷ undelete_of 0 ∷ better_than 0 1 ∷ undo_of 0 ∷ distance_of 8 ∷ search_of (0 ∷ []) 8 ∷ [])
         ≡ (FullFiles ∷ []) ∷ (UnknownFile ∷ []) ∷ (UnknownFile ∷ []) ∷ (UnknownFile ∷ UnknownFile ∷ SameFile ∷ FullDecisions ∷ [])
         ∷ (UnknownDecision ∷ AlreadyUndone ∷ []) ∷ [] ∷ (UnknownFile ∷ FullNear ∷ []) ∷ [] }
-    ensures questions_in_order { map refusals_of (relations_of 0 ∷ pairs_from 10 16 ∷ count_within 8 ∷ queues ∷ [])
-        ≡ (UnknownFile ∷ []) ∷ [] ∷ [] ∷ [] ∷ [] }
+    ensures tag_refusals_in_order { map refusals_of (add_service ∷ orders_of 1 (0 ∷ []) [] ∷ map_of (codes "a") 0 Current ∷ unmap_of (codes "a") 0 ∷ mappings_of 0 0 ∷ [])
+        ≡ (FullServices ∷ []) ∷ (UnknownService ∷ []) ∷ (UnknownFile ∷ UnknownService ∷ FullTags ∷ FullMappings ∷ [])
+        ∷ (UnknownFile ∷ UnknownService ∷ UnknownTag ∷ []) ∷ (UnknownFile ∷ UnknownService ∷ []) ∷ [] }
+    ensures questions_in_order { map refusals_of (relations_of 0 ∷ decision_of 0 ∷ pairs_from 10 16 ∷ count_within 8 ∷ queues ∷ [])
+        ≡ (UnknownFile ∷ []) ∷ (UnknownDecision ∷ []) ∷ [] ∷ [] ∷ [] ∷ [] }
 
     ensures a_known_file_keeps_its_number { replies nothing (import_of 10 ∷ import_of 11 ∷ import_of 10 ∷ [])
         ≡ imported 0 New ∷ imported 1 New ∷ imported 0 Known ∷ [] }
@@ -47,6 +51,9 @@ pub fn worked_rows()
         (relations_of 2 ∷ undo_of 0 ∷ relations_of 2 ∷ relations_of 0 ∷ undo_of 0 ∷ undo_of 2 ∷ [])
         ≡ grouped 0 (0 ∷ 1 ∷ 2 ∷ []) ∷ undone 0 ∷ grouped 1 (1 ∷ 2 ∷ []) ∷ grouped 0 (0 ∷ [])
         ∷ no AlreadyUndone ∷ no UnknownDecision ∷ [] }
+    ensures told_as_recorded { replies_behind (import_of 10 ∷ import_of 11 ∷ decide_of Same 1 0 ∷ [])
+        (decision_of 0 ∷ undo_of 0 ∷ decision_of 0 ∷ decision_of 1 ∷ [])
+        ≡ recorded Same 1 0 false ∷ undone 0 ∷ recorded Same 1 0 true ∷ no UnknownDecision ∷ [] }
     ensures not_related_across_alternates { replies_behind
         (import_of 10 ∷ import_of 11 ∷ import_of 12 ∷ decide_of NotRelated 0 1 ∷ decide_of Alternates 1 2 ∷ [])
         (relations_of 2 ∷ undo_of 1 ∷ relations_of 2 ∷ relations_of 0 ∷ [])
@@ -107,6 +114,27 @@ pub fn worked_rows()
         (delete_of 1 ∷ queues ∷ search_next 5 ∷ undelete_of 1 ∷ queues ∷ delete_of 0 ∷ undelete_of 0 ∷ queues ∷ [])
         ≡ changed true ∷ queued 1 ∷ searched 1 0 ∷ changed true ∷ queued 1
         ∷ changed true ∷ changed true ∷ queued 1 ∷ [] }
+    ensures a_tag_is_mapped_and_taken_away { replies_behind (import_of 10 ∷ [])
+        (map_of (codes "q q") 0 Pending ∷ mappings_of 0 0 ∷ map_of (codes "q q") 0 Pending ∷ unmap_of (codes "r") 0
+        ∷ unmap_of (codes "q q") 0 ∷ unmap_of (codes "q q") 0 ∷ mappings_of 0 0 ∷ [])
+        ≡ mapped 0 true ∷ tagged [] (codes "q q" ∷ []) [] ∷ mapped 0 false ∷ no UnknownTag
+        ∷ changed true ∷ changed false ∷ tagged [] [] [] ∷ [] }
+
+    // In the order of their numbers, whatever their texts are, and by the latest state.
+    ensures tags_by_number { replies_behind (import_of 10 ∷ import_of 11 ∷ [])
+        (map_of (codes "b") 1 Current ∷ map_of (codes "a") 1 Current ∷ map_of (codes "c") 0 Current ∷ map_of (codes "c") 1 Taken ∷ map_of (codes "b") 1 Current
+        ∷ mappings_of 0 1 ∷ map_of (codes "b") 1 Pending ∷ mappings_of 0 1 ∷ mappings_of 1 0 ∷ mappings_of 1 2 ∷ [])
+        ≡ mapped 0 true ∷ mapped 1 true ∷ mapped 2 true ∷ mapped 2 true ∷ mapped 0 false
+        ∷ tagged (codes "b" ∷ codes "a" ∷ []) [] (codes "c" ∷ []) ∷ mapped 0 true
+        ∷ tagged (codes "a" ∷ []) (codes "b" ∷ []) (codes "c" ∷ []) ∷ no UnknownService ∷ no UnknownFile ∷ [] }
+
+    // A refused command numbers no tag.
+    ensures a_refused_tag_has_no_number { replies_behind (import_of 10 ∷ [])
+        (map_of (codes "a") 1 Current ∷ map_of (codes "b") 0 Current ∷ unmap_of (codes "a") 0 ∷ [])
+        ≡ no UnknownFile ∷ mapped 0 true ∷ no UnknownTag ∷ [] }
+    ensures services_and_their_orders { replies nothing
+        (orders_of 0 (0 ∷ 1 ∷ []) [] ∷ add_service ∷ orders_of 0 (0 ∷ 1 ∷ []) [] ∷ orders_of 2 [] [] ∷ [])
+        ≡ no UnknownService ∷ served 1 ∷ served 0 ∷ no UnknownService ∷ [] }
     ensures all_bits_differ { replies_behind
         (import_with 10 (0 ∷ []) ∷ import_with 11 (0xffffffffffffffff ∷ []) ∷ distance_of 16 ∷ [])
         (search_next 2 ∷ pairs_from 10 16 ∷ [])

@@ -64,7 +64,7 @@ pub import_in_step : QueueLaws → NearLaws → (t : TablesView) (plan : Planned
     book.rows ≡ t.book.rows → book.files ≡ t.book.files + 1 →
     size_of groups ≡ size_of t.groups + 1 → relations_in groups ≡ relations_in t.groups →
     words_in tree.rows ≡ words_in t.tree.rows ++ words_planned plan.words.items → work.queue ≡ noted number plan.queued t.work.queue →
-    AreInStep (record { files = files; book = book; groups = groups; tree = tree; pairs = t.pairs; work = work; distance = t.distance })
+    AreInStep (record t { files = files; book = book; groups = groups; tree = tree; work = work })
 import_in_step laws near_laws t plan after step leads files book groups tree work number rows words is same_book one_more size related placed noted_is = record {
   fits = subst Fits (leads.leads ∙ rw (rows, same_book) refl) leads.fits;
   decided = one_more ∙ rw rows (omega (arith, step.decided, length-append t.files.rows));
@@ -88,7 +88,7 @@ pub search_in_step : (t : TablesView) (plan : PlannedSearch) (after : Records) �
     ((d : ℕ) (named : List FileNo) (files : List FileRow) → words_of (searched d named files) ≡ words_of files) →
     (files : Table FileRow) (work : Work) (pairs : PairsKept) → files.rows ≡ searched plan.distance plan.files t.files.rows → work.queue ≡ queue_of t.distance files.rows →
     pairs.rows ≡ pairs_after plan.pairs t.pairs.rows →
-    AreInStep (record { files = files; book = t.book; groups = t.groups; tree = t.tree; pairs = pairs; work = work; distance = t.distance })
+    AreInStep (record t { files = files; pairs = pairs; work = work })
 search_in_step t plan after step leads same_length same_words files work pairs rows queued paired =
     let n : length files.rows ≡ length t.files.rows = ap length rows ∙ same_length plan.distance plan.files t.files.rows in
     record {
@@ -112,7 +112,7 @@ pub live_in_step : LiveLaws → (t : TablesView) (plan : PlannedLive) (after : R
     AreInStep t → LeadsLive plan t after →
     (files : Table FileRow) (work : Work) (pairs : PairsKept) → files.rows ≡ with_live_mark plan.file.0 plan.live t.files.rows →
     work.queue ≡ noted plan.file plan.queued t.work.queue → pairs.rows ≡ pairs_after plan.pairs t.pairs.rows →
-    AreInStep (record { files = files; book = t.book; groups = t.groups; tree = t.tree; pairs = pairs; work = work; distance = t.distance })
+    AreInStep (record t { files = files; pairs = pairs; work = work })
 live_in_step laws t plan after step leads files work pairs rows noted_is paired =
     let n : length files.rows ≡ length t.files.rows = ap length rows ∙ laws.same_length plan.file.0 plan.live t.files.rows in
     record {

@@ -1,6 +1,7 @@
 -- How much is read at most through tables that count, where that is bounded.
 use Rattle.std.specs.Prelude.{◌≤◌, ◌+◌, ◌*◌, ℕ, List, length, filter, Option, Some, None, IfSome, IsSomeAnd}
 use Rattle.media_types.specs.declared.numbers.FileNo.{FileNo}
+use Rattle.media_types.specs.declared.numbers.ServiceNo.{ServiceNo}
 use Rattle.media_types.specs.declared.searching.Searching.{Searching}
 use Rattle.media_base.specs.declared.change.Change.{Change}
 use Rattle.media_base.specs.declared.change.Change.TheVariants as changes
@@ -14,6 +15,7 @@ use Rattle.file_records.specs.Near.{near_pairs}
 use Rattle.potential_pairs.specs.Planning.{has_file}
 use Rattle.vp_tree.specs.declared.node.NodeView.{NodeView}
 use Rattle.near_search.specs.Work.{work}
+use Rattle.tag_store.specs.Mapped.{tags_of_file}
 use Rattle.library_machine.specs.Jobs.{Deed, tells, makes, worked_out}
 use Rattle.library_machine.specs.Records.{Records}
 use Rattle.library_machine.specs.Searches.{next_search, risen}
@@ -27,14 +29,21 @@ search_meets r tree s = length s.files + work tree r.files s.distance (risen r s
 abbrev pub live_reads : Records → FileNo → ℕ
 live_reads r file = 8 * (2 + length (filter (λ row. has_file file.0 row.0) (near_pairs r.files)))
 
--- for a page of n pairs the heads of 17 distances, and two for each pair
-abbrev pub query_reads : Query → Option ℕ
-query_reads (queries.Pairs page) = Some (2 * page.n + 17)
-query_reads query = None
+-- one for each tag that is mapped to the file in the service, and two
+abbrev pub mappings_reads : Records → ServiceNo → FileNo → ℕ
+mappings_reads r service file = 2 + length (tags_of_file r.mappings service.0 file.0)
+
+-- a decision is one row; for a page of n pairs the heads of 17 distances, and two for each pair
+abbrev pub query_reads : Records → Query → Option ℕ
+query_reads r (queries.Decision n) = Some 1
+query_reads r (queries.Pairs page) = Some (2 * page.n + 17)
+query_reads r (queries.Mappings service file) = Some (mappings_reads r service file)
+query_reads r query = None
 
 abbrev pub change_reads : Records → List NodeView → Change → Option ℕ
 change_reads r tree (changes.Live file live) = Some (live_reads r file)
 change_reads r tree (changes.Searched s) = Some (32 * (1 + search_meets r tree s))
+change_reads r tree (changes.Mapping mapping) = Some 1
 change_reads r tree change = None
 
 -- until the change is worked out
@@ -54,7 +63,7 @@ together None other = None
 
 -- for what is done: a job is worked out, and then its change is made
 abbrev pub most_reads : Records → List NodeView → Command → Option ℕ
-most_reads r tree (commands.Ask q) = query_reads q
+most_reads r tree (commands.Ask q) = query_reads r q
 most_reads r tree (commands.Do c) = change_reads r tree c
 most_reads r tree (commands.Run j) = together (job_reads r j) (deed_reads r tree (worked_out r j))
 most_reads r tree (commands.Tend u) = None

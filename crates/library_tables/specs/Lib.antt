@@ -6,6 +6,7 @@ pub mod Pairs
 pub mod Preparing
 pub mod Searches
 pub mod Tables
+pub mod Tags
 pub use Rattle.library_machine.specs.Asking
 pub use Rattle.library_machine.specs.Changing
 pub use Rattle.library_machine.specs.Jobs

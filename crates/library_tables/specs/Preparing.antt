@@ -19,6 +19,7 @@ use Rattle.library_tables.specs.Deletion.{LeadsLive}
 use Rattle.library_tables.specs.Imports.{LeadsImport, words_planned}
 use Rattle.library_tables.specs.Searches.{LeadsDistance, LeadsSearch}
 use Rattle.library_tables.specs.Tables.{TablesView, records_of}
+use Rattle.library_tables.specs.Tags.{LeadsMapping, LeadsOrders, LeadsService}
 
 -- the plan was made of these tables, and leads them to these records
 abbrev pub Leads : TablesPlan → TablesView → Records → Type 0
@@ -28,6 +29,9 @@ Leads (plans.Decide plan) t after = LeadsDecide plan t after
 Leads (plans.Undo plan) t after = LeadsUndo plan t after
 Leads (plans.Distance plan) t after = LeadsDistance plan t after
 Leads (plans.Search plan) t after = LeadsSearch plan t after
+Leads plans.Service t after = LeadsService t after
+Leads (plans.Orders plan) t after = LeadsOrders plan t after
+Leads (plans.Mapping plan) t after = LeadsMapping plan t after
 
 -- the words that a plan places in the tree: an import its new ones, all other plans none
 abbrev pub words_placed : TablesPlan → List Hash64

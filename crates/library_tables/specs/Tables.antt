@@ -15,6 +15,9 @@ use Rattle.potential_pairs.specs.Potential.{Kept as PairsKept}
 use Rattle.vp_tree.specs.declared.node.NodeView.{NodeView}
 use Rattle.vp_tree.specs.Nodes.{words_in}
 use Rattle.tree_upkeep.specs.Queue.{Work}
+use Rattle.tag_types.specs.declared.orders.Orders.{Orders}
+use Rattle.tag_store.specs.Mapped.{Row}
+use Rattle.tag_store.specs.Numbering.{Numbered}
 use Rattle.library_machine.specs.Records.{Records, Fits}
 
 pub record TablesView : Type 0 where
@@ -25,10 +28,20 @@ pub record TablesView : Type 0 where
   pub pairs : PairsKept
   pub work : Work
   pub distance : ℕ
+  pub tags : Numbered
+  pub services : List Orders
+  pub mappings : Table Row
 
 -- what the tables record
 abbrev pub records_of : TablesView → Records
-records_of t = record { files = t.files.rows; decisions = t.book.rows; distance = t.distance }
+records_of t = record {
+  files = t.files.rows;
+  decisions = t.book.rows;
+  distance = t.distance;
+  tags = t.tags.texts;
+  services = t.services;
+  mappings = t.mappings.rows;
+}
 
 -- the tree has the hashes of the files, by number
 abbrev pub HasWords : List NodeView → Records → Type 0

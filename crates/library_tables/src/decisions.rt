@@ -1,6 +1,6 @@
 //! Decisions of two files, undoings, and the relations that the standing decisions make.
 
-ghost use Rattle.std.specs.Prelude.{◌≡◌, ◌&&◌, IfOk};
+ghost use Rattle.std.specs.Prelude.{◌≡◌, ◌≤◌, ◌+◌, ◌&&◌, IfOk};
 ghost use Rattle.media_base.specs.declared.change.Change.TheVariants as changes;
 ghost use Rattle.media_base.specs.declared.command.Query.TheVariants as queries;
 ghost use Rattle.library_machine.specs.Asking as machine;
@@ -144,5 +144,24 @@ impl Tables {
             return Ok(Err(Unmet::UnknownFile));
         }
         Ok(Ok(Answer::Relations(self.groups.standing(file)?)))
+    }
+
+    #[tactic(auto, unfolding(library_machine::specs::Asking::query_needs, library_machine::specs::Asking::answer))]
+    pub(crate) fn tell_decision<L: Ledger>(
+        &self,
+        number: DecisionNo,
+        steps: &mut Steps<L>,
+    ) -> Result<Answer, Unmet>
+        ensures answer { result ≡ machine.asked (records_of self.now) (queries.Decision number) }
+        ensures reads { steps.new ≤ steps.old + 1 }
+    {
+        if number.0 >= self.book.len() {
+            return Err(Unmet::UnknownDecision);
+        }
+        let row = self.book.row(number, steps);
+        Ok(Answer::Decision {
+            decision: row.decision(),
+            undone: row.undone,
+        })
     }
 }

@@ -21,13 +21,15 @@ impl Tables {
         steps: &mut Steps<L>,
     ) -> Result<Result<Answer, Unmet>, NoMemory>
         ensures answer { IfOk result (λ answer. answer ≡ machine.asked (records_of self.now) query.now) }
-        ensures reads { IsWithin (query_reads query.now) steps.old steps.new }
+        ensures reads { IsWithin (query_reads (records_of self.now) query.now) steps.old steps.new }
     {
         match query {
             Query::Relations(file) => self.tell_relations(*file),
+            Query::Decision(number) => Ok(self.tell_decision(*number, steps)),
             Query::Pairs(page) => self.tell_pairs(*page, steps),
             Query::PairCount(at_most) => Ok(Ok(self.tell_pair_count(*at_most))),
             Query::Queues => Ok(Ok(self.tell_queues())),
+            Query::Mappings { service, file } => self.tell_mappings(*service, *file, steps),
         }
     }
 
@@ -53,6 +55,9 @@ impl Tables {
             Change::Undo(number) => self.plan_undo(*number, steps),
             Change::Distance(distance) => self.plan_distance(*distance, steps),
             Change::Searched(searching) => self.plan_search(searching, steps),
+            Change::Service => self.plan_service(),
+            Change::Orders { service, orders } => self.plan_orders(*service, orders),
+            Change::Mapping(mapping) => self.plan_mapping(mapping, steps),
         }
     }
 

@@ -15,6 +15,7 @@ mod pairs;
 mod plan;
 mod searches;
 mod tables;
+mod tags;
 mod words;
 
 pub use decisions::{PlannedDecision, PlannedUndo};
@@ -24,3 +25,4 @@ pub use laws::searches_read_few;
 pub use plan::{Deed, Prepared, TablesPlan};
 pub use searches::{PlannedDistance, PlannedSearch};
 pub use tables::Tables;
+pub use tags::{PlannedMapping, PlannedOrders};

@@ -2,6 +2,7 @@ use crate::decisions::{PlannedDecision, PlannedUndo};
 use crate::deletion::PlannedLive;
 use crate::imports::PlannedImport;
 use crate::searches::{PlannedDistance, PlannedSearch};
+use crate::tags::{PlannedMapping, PlannedOrders};
 use media_base::{Answer, Change, Unmet};
 
 /// A change of the tables that is ready to be made. Dropped, it changes nothing.
@@ -13,6 +14,9 @@ pub enum TablesPlan {
     Undo(PlannedUndo),
     Distance(PlannedDistance),
     Search(PlannedSearch),
+    Service,
+    Orders(PlannedOrders),
+    Mapping(PlannedMapping),
 }
 
 /// What a change comes to.

@@ -15,6 +15,7 @@ use relation_groups::Groups;
 use std::alloc::Global;
 use std::marker::Model;
 use std::sync::ledger::Ledger;
+use tag_store::{Mappings, Services, Tags};
 use tree_upkeep::Upkeep;
 use vp_tree::Tree;
 
@@ -36,6 +37,10 @@ pub struct Tables {
     pub(crate) upkeep: Upkeep,
     /// Within which files are searched.
     pub(crate) distance: SearchDistance,
+    pub(crate) tags: Tags,
+    pub(crate) services: Services,
+    /// The tags that are mapped to files.
+    pub(crate) mappings: Mappings,
 }
 
 impl Model for Tables {
@@ -51,6 +56,9 @@ impl Model for Tables {
       pairs = t.pairs;
       work = t.upkeep;
       distance = t.distance;
+      tags = t.tags;
+      services = t.services;
+      mappings = t.mappings;
     } };
 
     ghost invariant = { λ t. AreInStep (record {
@@ -61,6 +69,9 @@ impl Model for Tables {
       pairs = t.pairs;
       work = t.upkeep;
       distance = t.distance;
+      tags = t.tags;
+      services = t.services;
+      mappings = t.mappings;
     }) };
 }
 
@@ -80,6 +91,9 @@ impl Tables {
             pairs: Pairs::new(alloc),
             upkeep: Upkeep::new(alloc),
             distance: SearchDistance::first(),
+            tags: Tags::new(alloc),
+            services: Services::new(),
+            mappings: Mappings::new(alloc),
         }
     }
 
@@ -104,6 +118,9 @@ impl Tables {
             TablesPlan::Undo(plan) => self.commit_undo(plan),
             TablesPlan::Distance(plan) => self.commit_distance(plan),
             TablesPlan::Search(plan) => self.commit_search(plan),
+            TablesPlan::Service => self.commit_service(),
+            TablesPlan::Orders(plan) => self.commit_orders(plan),
+            TablesPlan::Mapping(plan) => self.commit_mapping(plan),
         }
     }
 
@@ -118,7 +135,10 @@ impl Tables {
             | TablesPlan::Decide(_)
             | TablesPlan::Undo(_)
             | TablesPlan::Distance(_)
-            | TablesPlan::Search(_) => {}
+            | TablesPlan::Search(_)
+            | TablesPlan::Service
+            | TablesPlan::Orders(_)
+            | TablesPlan::Mapping(_) => {}
         }
     }
 

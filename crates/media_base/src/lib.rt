@@ -1,7 +1,7 @@
 //! What every part of medialib speaks of: commands, replies and refusals, and the objects of the
 //! outside, each with a form in memory.
 //!
-//! It gives out all of `media_types` again, so a crate above names this one alone.
+//! It gives out all of `media_types` and `tag_types` again, so a crate above names this one alone.
 #![tactic(auto)]
 
 mod bytes_sink;
@@ -18,7 +18,7 @@ mod status;
 
 pub use bytes_sink::BytesSink;
 pub use bytes_source::BytesSource;
-pub use change::{Change, ChangeList};
+pub use change::{Change, ChangeList, Mapping};
 pub use command::{Caller, Command, Job, Query, Upkeep};
 pub use gather::Gather;
 pub use keeper::{Keeper, NextFault, PutFault, StartFault};
@@ -30,10 +30,17 @@ pub use media_types::{
     SearchDistance, Searching, ServiceNo, Sha, SizeList, Steps, TagNo, distance,
 };
 pub use refusal::{FieldName, Refusal, Unmet};
-pub use reply::{Answer, ImportStatus, Imported, QueueLengths, Reply, SearchCounts};
+pub use reply::{
+    Answer, FileMappings, ImportStatus, Imported, Mapped, QueueLengths, Reply, SearchCounts,
+    TagTextList,
+};
 pub use sink::{Sink, write_all};
 pub use source::Source;
 pub use status::Status;
+pub use tag_types::{
+    CleanFail, MAX_IMPLIED, MAX_MAPPINGS, MAX_RELATIONS, MAX_SERVICES, MAX_TAG_BYTES, MAX_TAGS,
+    MAX_TRIPLES, MapState, Orders, ServiceList, TagText, clean,
+};
 
 #[cfg(test)]
 mod tests;

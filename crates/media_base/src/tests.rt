@@ -93,6 +93,11 @@ fn names(rt: HostRuntime) {
         (FieldName::AfterJ, "after_j"),
         (FieldName::AfterK, "after_k"),
         (FieldName::AtMost, "at_most"),
+        (FieldName::Service, "service"),
+        (FieldName::Siblings, "siblings"),
+        (FieldName::Parents, "parents"),
+        (FieldName::Tag, "tag"),
+        (FieldName::State, "state"),
     ];
     for (field, text) in fields {
         assert_eq!(rt; field.text(), text);

@@ -20,6 +20,9 @@ answer_row (answers.Undone decision) = (codes "undone", a_number decision.0) ∷
 answer_row (answers.Relations relations) =
     (codes "king", a_number relations.king.0) ∷ (codes "members", files relations.members) ∷ (codes "alternates", files relations.alternates) ∷ (codes "not_related", files relations.not_related)
     ∷ []
+answer_row (answers.Decision decision undone) =
+    (codes "code", a_number (names.code_number decision.code)) ∷ (codes "a", a_number decision.a.0) ∷ (codes "b", a_number decision.b.0) ∷ (codes "undone", a_flag undone) ∷ (codes "rule", files [])
+    ∷ []
 answer_row (answers.Pairs found) = (codes "pairs", pairs found) ∷ []
 answer_row (answers.PairCount count) = (codes "count", a_number count) ∷ []
 answer_row (answers.Distance distance) = (codes "distance", a_number distance) ∷ []

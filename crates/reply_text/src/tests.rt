@@ -2,9 +2,9 @@ use crate::out::Count;
 use crate::part::{Field, Part, put_object};
 use crate::{reply_len, write_reply, write_reply_line};
 use media_base::{
-    Answer, BytesSink, CallList, DecisionNo, FieldName, FileList, FileNo, FileRelations, Gather,
-    ImportStatus, Imported, PairList, QueueLengths, Refusal, Reply, SearchCounts, SearchDistance,
-    Unmet,
+    Answer, BytesSink, CallList, Code, Decision, DecisionNo, FieldName, FileList, FileNo,
+    FileRelations, Gather, ImportStatus, Imported, PairList, QueueLengths, Refusal, Reply,
+    SearchCounts, SearchDistance, Unmet,
 };
 use std::alloc::Global;
 use std::process::Abort;
@@ -154,6 +154,34 @@ fn relations_are_answered(rt: HostRuntime) -> Result<(), Fail> {
         &reply,
         "{\"king\":0,\"members\":[0,10,200],\"alternates\":[7],\"not_related\":[]}",
     )
+}
+
+#[test]
+fn decisions_are_told(rt: HostRuntime) -> Result<(), Fail> {
+    let told = |code, a, b, undone| {
+        let (a, b) = (FileNo(a), FileNo(b));
+        let decision = Decision { code, a, b };
+        Ok(Answer::Decision { decision, undone })
+    };
+    let cases = [
+        (
+            told(Code::NotRelated, 0, 1, false),
+            "{\"code\":1,\"a\":0,\"b\":1,\"undone\":false,\"rule\":[]}",
+        ),
+        (
+            told(Code::Same, 7, 3, true),
+            "{\"code\":2,\"a\":7,\"b\":3,\"undone\":true,\"rule\":[]}",
+        ),
+        (
+            told(Code::Alternates, 1, 0, false),
+            "{\"code\":3,\"a\":1,\"b\":0,\"undone\":false,\"rule\":[]}",
+        ),
+        (
+            told(Code::Better, 999_999, 999_998, true),
+            "{\"code\":4,\"a\":999999,\"b\":999998,\"undone\":true,\"rule\":[]}",
+        ),
+    ];
+    assert_texts(&rt, rt.alloc(), &cases)
 }
 
 fn assert_refusals(rt: &impl Abort, alloc: Global, cases: &[(Refusal, &str)]) -> Result<(), Fail> {

@@ -1,12 +1,12 @@
 ghost use Rattle.std.specs.Prelude.{◌≡◌, ◌-◌, ◌^◌, min, length};
 ghost use Rattle.media_types.specs.Cause.{HasCause, failed};
-ghost use Rattle.media_base.specs.Names.{import_number};
+ghost use Rattle.media_base.specs.Names as names;
 ghost use Rattle.media_base.specs.Transfer.{Sends};
 ghost use Rattle.reply_text.specs.ReplyText.{reply_text, reply_line};
 
 use crate::out::{Count, Out};
 use crate::part::{Field, Part, put_object};
-use media_base::{Answer, Failed, Gather, ImportStatus, Reply, Sink};
+use media_base::{Answer, Code, Failed, Gather, ImportStatus, Reply, Sink};
 
 /// Writes the reply's text, without a line feed. A text of up to 4,096 bytes goes out in one write, and
 /// a longer one in pieces of up to as many. It takes no memory.
@@ -64,6 +64,13 @@ fn put_reply<W, O: Out<W>>(reply: &Reply, out: &mut O, sink: &mut W) -> Result<(
             ("alternates", Part::Files(relations.alternates.as_slice())),
             ("not_related", Part::Files(relations.not_related.as_slice())),
         ]),
+        Ok(Answer::Decision { decision, undone }) => put(&[
+            ("code", Part::Number(code_number(decision.code))),
+            ("a", Part::Number(u64::from(decision.a.0))),
+            ("b", Part::Number(u64::from(decision.b.0))),
+            ("undone", Part::Flag(*undone)),
+            ("rule", Part::Files(&[])),
+        ]),
         Ok(Answer::Pairs(pairs)) => put(&[("pairs", Part::Pairs(pairs.as_slice()))]),
         Ok(Answer::PairCount(count)) => put(&[("count", Part::Number(*count))]),
         Ok(Answer::Distance(distance)) => put(&[(
@@ -89,8 +96,19 @@ fn put_reply<W, O: Out<W>>(reply: &Reply, out: &mut O, sink: &mut W) -> Result<(
     }
 }
 
+fn code_number(code: Code) -> u64
+    ensures { result ≡ names.code_number code }
+{
+    match code {
+        Code::NotRelated => 1,
+        Code::Same => 2,
+        Code::Alternates => 3,
+        Code::Better => 4,
+    }
+}
+
 fn status_number(status: ImportStatus) -> u64
-    ensures { result ≡ import_number status }
+    ensures { result ≡ names.import_number status }
 {
     match status {
         ImportStatus::New => 1,

@@ -1,2 +1,3 @@
 pub mod Keeping
 pub mod LastRows
+pub mod TagTexts

@@ -3,5 +3,7 @@ pub mod Mapped
 pub mod MappedLaws
 pub mod Mirrored
 pub mod Numbering
+pub mod NumberingLaws
 pub mod PickedLaws
 pub mod Serving
+pub mod TagTexts

@@ -94,7 +94,7 @@ length-put (row ∷ rows) key state sorted = by_ordering (triple_cmp key row.0)
     (λ equal. rw equal (omega arith))
     (λ greater. let rest = length-put rows key state (sorted_tail triple_cmp row.0 (keys_of rows) sorted) in rw greater (omega (arith, rest)))
 
-length-taken : (rows : List Row) (key : ℕ × ℕ × ℕ) → length (without_row triple_cmp rows key) + one_if (value_of triple_cmp rows key) ≡ length rows
+pub length-taken : (rows : List Row) (key : ℕ × ℕ × ℕ) → length (without_row triple_cmp rows key) + one_if (value_of triple_cmp rows key) ≡ length rows
 length-taken [] key = omega arith
 length-taken (row ∷ rows) key = by_ordering (triple_cmp key row.0)
     (λ less. rw less (omega (arith, length-taken rows key)))

@@ -1,6 +1,7 @@
 -- Tags are numbered by first use.
-use Rattle.std.specs.Prelude.{◌≢◌, ℕ, Bool, if◌then◌else◌, List, [], ◌∷◌, ◌++◌, Option, position, bytes_eq}
+use Rattle.std.specs.Prelude.{◌≡◌, ◌≢◌, ◌<◌, ◌≤◌, ◌⊎◌, ℕ, Bool, true, if◌then◌else◌, List, [], ◌∷◌, ◌++◌, length, Option, position, bytes_eq}
 use Rattle.std.specs.List.{AllPairs, list_any, position_or_len}
+use Rattle.tag_types.specs.declared.limits.TheConstants.{MAX_TAGS}
 
 -- a tag has this text
 abbrev pub is_tag : List ℕ → List (List ℕ) → Bool
@@ -21,3 +22,17 @@ with_tag texts text = if is_tag text texts then texts else texts ++ text ∷ []
 -- no two tags have the same text
 abbrev pub AreDistinctTexts : List (List ℕ) → Type 0
 AreDistinctTexts texts = AllPairs (λ a b. a ≢ b) texts
+
+-- what a contract sees of the tags: their texts, and how many more there is room for
+pub record Numbered : Type 0 where
+  pub texts : List (List ℕ)
+  pub spare : ℕ
+
+-- the texts of all tables: no more than a library has, and no two the same
+pub record AreNumbered (texts : List (List ℕ)) : Type 0 where
+  pub few : length texts ≤ MAX_TAGS
+  pub distinct : AreDistinctTexts texts
+
+-- a tag has this text, or there may be one more
+abbrev pub HasPlaceFor : List ℕ → List (List ℕ) → Type 0
+HasPlaceFor text texts = (is_tag text texts ≡ true) ⊎ (length texts < MAX_TAGS)

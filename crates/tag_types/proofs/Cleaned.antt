@@ -1,11 +1,11 @@
 -- A text that is cleaned as its characters come.
-use Rattle.std.proofs.Common.{◌≡◌, ◌<◌, ◌≤◌, ◌+◌, ℕ, suc, Bool, true, false, List, [], ◌∷◌, ◌++◌, length, get_or, drop, Option, Some, None, refl, sym, ap, ◌∙◌, arith, append-nil, length-append}
-use Rattle.std.specs.Str.{chars, IsUtf8, encode_utf8_all}
+use Rattle.std.proofs.Common.{◌≡◌, ◌<◌, ◌≤◌, ◌+◌, ℕ, suc, Bool, false, List, [], ◌∷◌, ◌++◌, length, get_or, drop, Some, None, sym, ap, ◌∙◌, arith, append-nil, length-append}
+use Rattle.std.specs.Str.{chars, encode_utf8_all}
 use Rattle.std.proofs.Math.Seq.{drop-cons}
 use Rattle.std.proofs.Math.ListN.{drop_of_length-le}
 use Rattle.tag_types.specs.declared.limits.TheConstants.{MAX_TAG_BYTES}
-use Rattle.tag_types.specs.Cleaning.{IsTag, cleaned, tag_of}
-use Rattle.tag_types.specs.CleaningLaws.{as_tag-few, as_tag-fits, as_tag-long, cleaned-following, tag_of-again}
+use Rattle.tag_types.specs.Cleaning.{cleaned, tag_of}
+use Rattle.tag_types.specs.CleaningLaws.{as_tag-few, as_tag-fits, as_tag-long, cleaned-following}
 use Rattle.tag_types.specs.Following.{with_following}
 
 pub starts : (bytes text : List ℕ) → bytes ≡ [] → with_following bytes false text ≡ encode_utf8_all (cleaned text)

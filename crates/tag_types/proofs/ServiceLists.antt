@@ -1,11 +1,11 @@
 -- A service put last in a list.
-use Rattle.std.proofs.Common.{◌≡◌, ◌≢◌, ◌<◌, ◌≤◌, ◌+◌, ◌-◌, ℕ, List, [], ◌∷◌, ◌++◌, length, get_or, set, take, drop, Contains, refl, sym, ap, ◌∙◌, arith, length-take, replicate}
+use Rattle.std.proofs.Common.{◌≡◌, ◌≢◌, ◌<◌, ◌+◌, ◌-◌, ℕ, List, [], ◌∷◌, ◌++◌, length, set, take, drop, Contains, sym, ap, ◌∙◌, arith, length-take, replicate}
 use Rattle.std.proofs.Math.Seq.{drop-append-add}
 use Rattle.std.proofs.lemmas.List.{drop-replicate, drop-set-lt, get_or_default, length-set, take-append-drop, take_more_set}
 use Rattle.std.proofs.lemmas.List.Quantifiers.{all_pairs_push}
 use Rattle.media_types.specs.declared.numbers.ServiceNo.{ServiceNo}
 use Rattle.tag_types.specs.declared.limits.TheConstants.{MAX_SERVICES}
-use Rattle.tag_types.specs.ServiceLists.{AreDistinct, IsFilled}
+use Rattle.tag_types.specs.ServiceLists.{IsFilled}
 
 abbrev blank : ServiceNo
 blank = record { 0 = 0 }

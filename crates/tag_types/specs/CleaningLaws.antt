@@ -1,6 +1,6 @@
 -- What holds of all cleaned texts. These laws follow from the definitions alone.
-use Rattle.std.proofs.Common.{◌≡◌, ℕ, ◌<◌, ◌≤◌, ◌&&◌, Bool, true, false, nat_lt, nat_le, if◌then◌else◌, List, [], ◌∷◌, ◌++◌, length, map, Option, Some, None, refl, sym, ap, ◌∙◌, arith, rules, append-nil, length-append}
-use Rattle.std.specs.Char.{is_whitespace, to_ascii_lowercase, encode_utf8}
+use Rattle.std.proofs.Common.{◌≡◌, ℕ, ◌<◌, ◌≤◌, ◌&&◌, Bool, true, false, nat_lt, nat_le, if◌then◌else◌, List, [], ◌∷◌, ◌++◌, length, map, Some, None, refl, sym, ap, ◌∙◌, arith, rules, append-nil}
+use Rattle.std.specs.Char.{is_whitespace, to_ascii_lowercase}
 use Rattle.std.specs.List.{filter, join_with_byte, onto_first, slice_split}
 use Rattle.std.specs.Str.{chars, IsUtf8, encode_utf8_all}
 use Rattle.std.proofs.lemmas.Bool.{leb-true}
@@ -8,7 +8,7 @@ use Rattle.std.proofs.lemmas.Bool.Decides.{nat_tests}
 use Rattle.std.proofs.lemmas.Str.{chars-encodes, scalars-chars}
 use Rattle.std.proofs.Math.Utf8.{scalar, scalars}
 use Rattle.tag_types.specs.declared.limits.TheConstants.{MAX_TAG_BYTES}
-use Rattle.tag_types.specs.Cleaning.{as_tag, cleaned, lowered, tag_of, words}
+use Rattle.tag_types.specs.Cleaning.{as_tag, cleaned, lowered, tag_of}
 use Rattle.tag_types.specs.Following.{following}
 
 -- ---- a character, by whether it is white space
@@ -190,9 +190,11 @@ scalars-following begun apart (c ∷ more) all =
     and_left : (a b : Bool) → (a && b) ≡ true → a ≡ true
     and_left true b e = refl
     and_left false b e = e
+
     and_right : (a b : Bool) → (a && b) ≡ true → b ≡ true
     and_right true b e = e
     and_right false b e = absurd (cc)
+
     put : (apart : Bool) (c : ℕ) (more : List ℕ) → scalar c ≡ true → scalars (following true false more) ≡ true →
         scalars (if apart then 32 ∷ to_ascii_lowercase c ∷ following true false more else to_ascii_lowercase c ∷ following true false more) ≡ true
     put true c more first rest = scalars-cons (to_ascii_lowercase c) (following true false more) (scalar-lowered c first) rest

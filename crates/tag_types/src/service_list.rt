@@ -7,7 +7,7 @@ use media_types::ServiceNo;
 use std::marker::Model;
 
 /// Services in an order, none twice: at most `MAX_SERVICES`. It takes no memory.
-#[derive(Clone, Copy, Debug, PartialEq, Eq, Hash)]
+#[derive(Clone, Copy, Debug)]
 pub struct ServiceList {
     /// The services, and 0 in each slot that isn't used.
     slots: [ServiceNo; MAX_SERVICES],
@@ -88,4 +88,26 @@ impl ServiceList {
         self.slots[self.len] = service;
         self.len += 1;
     }
+}
+
+impl PartialEq for ServiceList {
+    ghost use Rattle.std.specs.Cmp.{partial_equiv_from_equiv};
+    ghost use Rattle.tag_types.specs.Equality.{same_services, same_services-equiv};
+
+    ghost eq = { same_services };
+
+    ghost laws = { partial_equiv_from_equiv same_services-equiv };
+
+    fn eq(&self, other: &ServiceList) -> bool
+        ensures value { result ≡ same_services self.now other.now }
+        ensures same { IsTrue result ↔ (self.now ≡ other.now) }
+    {
+        self.as_slice() == other.as_slice()
+    }
+}
+
+impl Eq for ServiceList {
+    ghost use Rattle.tag_types.specs.Equality.{same_services-equiv};
+
+    ghost laws = { same_services-equiv };
 }

@@ -1,4 +1,4 @@
-ghost use Rattle.std.specs.Prelude.{◌≡◌, IfOk};
+ghost use Rattle.std.specs.Prelude.{◌≡◌, ◌↔◌, IsTrue, IfOk};
 ghost use Rattle.tag_types.specs.Cleaning.{IsTag};
 
 use media_types::NoMemory;
@@ -53,14 +53,17 @@ impl TagText {
 
 impl PartialEq for TagText {
     ghost use Rattle.std.specs.Prelude.{bytes_eq};
-    ghost use Rattle.std.specs.Cmp as Cmp;
+    ghost use Rattle.std.specs.Cmp.{partial_equiv_from_equiv};
     ghost use Rattle.std.specs.Cmp.Lexicographic.{nat_list_eq_equiv};
 
     ghost eq = { bytes_eq };
 
-    ghost laws = { Cmp.partial_equiv_from_equiv nat_list_eq_equiv };
+    ghost laws = { partial_equiv_from_equiv nat_list_eq_equiv };
 
-    fn eq(&self, other: &TagText) -> bool {
+    fn eq(&self, other: &TagText) -> bool
+        ensures value { result ≡ bytes_eq self.now other.now }
+        ensures same { IsTrue result ↔ (self.now ≡ other.now) }
+    {
         self.text == other.text
     }
 }
@@ -73,12 +76,11 @@ impl Eq for TagText {
 
 impl Hash for TagText {
     ghost use Rattle.std.specs.Hash as fed;
-    ghost use Rattle.std.specs.Cmp.Rules.{hashing};
-    ghost use Rattle.std.proofs.Common.{rules};
+    ghost use Rattle.tag_types.specs.Equality.{tags-alike};
 
     ghost hash_input = { fed.str };
 
-    ghost respects_eq = { Prim.search (hashing, rules) };
+    ghost respects_eq = { tags-alike };
 
     fn hash<H: Hasher>(&self, state: &mut H) {
         self.text.hash(state);

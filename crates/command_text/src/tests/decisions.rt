@@ -1,5 +1,5 @@
 use super::{DECIDE, assert_all_faulty, assert_refused, read_pieces};
-use media_base::{Change, Code, Command, Decision, DecisionNo, FieldName, FileNo, Refusal};
+use media_base::{Change, Code, Command, Decision, DecisionNo, FieldName, FileNo, Query, Refusal};
 use std::test::Fail;
 
 #[test]
@@ -23,7 +23,7 @@ fn faulty_decisions_are_refused(rt: HostRuntime) -> Result<(), Fail> {
 }
 
 #[test]
-fn faulty_undos_are_refused(rt: HostRuntime) -> Result<(), Fail> {
+fn faulty_numbers_of_decisions_are_refused(rt: HostRuntime) -> Result<(), Fail> {
     let cases = [
         ("\"decision\":-1", FieldName::Decision),
         ("\"decision\":-0", FieldName::Decision),
@@ -36,8 +36,10 @@ fn faulty_undos_are_refused(rt: HostRuntime) -> Result<(), Fail> {
         ("\"file\":1", FieldName::Decision),
     ];
     assert_all_faulty(&rt, rt.alloc(), "{\"do\":\"undo\"", &cases)?;
+    assert_all_faulty(&rt, rt.alloc(), "{\"do\":\"decision\"", &cases)?;
     let want = Refusal::NotARequest(FieldName::Decision);
     assert_refused(&rt, rt.alloc(), b"{\"do\":\"undo\"}", want);
+    assert_refused(&rt, rt.alloc(), b"{\"do\":\"decision\"}", want);
     Ok(())
 }
 
@@ -64,12 +66,30 @@ fn decisions_are_read(rt: HostRuntime) -> Result<(), Fail> {
     Ok(())
 }
 
+const NUMBERS: [(&str, DecisionNo); 3] = [
+    ("0", DecisionNo(0)),
+    ("7", DecisionNo(7)),
+    ("4294967295", DecisionNo(u32::MAX)),
+];
+
 #[test]
 fn undos_are_read(rt: HostRuntime) -> Result<(), Fail> {
-    for (number, want) in &[("0", 0), ("7", 7), ("4294967295", u32::MAX)] {
+    for (number, want) in &NUMBERS {
         match read_pieces(rt.alloc(), "{\"decision\":", number, ",\"do\":\"undo\"}")? {
-            Command::Do(Change::Undo(decision)) => assert_eq!(rt; decision, DecisionNo(*want)),
+            Command::Do(Change::Undo(decision)) => assert_eq!(rt; decision, *want),
             _ => panic!(rt; "no undo: {number}"),
+        }
+    }
+    Ok(())
+}
+
+#[test]
+fn questions_for_decisions_are_read(rt: HostRuntime) -> Result<(), Fail> {
+    let end = ",\"code\":9,\"do\":\"decision\"}";
+    for (number, want) in &NUMBERS {
+        match read_pieces(rt.alloc(), "{\"decision\":", number, end)? {
+            Command::Ask(Query::Decision(decision)) => assert_eq!(rt; decision, *want),
+            _ => panic!(rt; "no question: {number}"),
         }
     }
     Ok(())

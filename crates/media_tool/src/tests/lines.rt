@@ -47,6 +47,7 @@ pub enum Line {
     Decide(Code, u32, u32),
     Undo(u32),
     Relations(u32),
+    Decision(u32),
     /// The potential pairs after a pair, at most so many, within a distance.
     Page(Option<(u32, u32)>, u32, u8),
     PairCount(u8),
@@ -83,6 +84,7 @@ impl Line {
             }
             Line::Undo(decision) => write_asked(input, "undo", "decision", *decision),
             Line::Relations(file) => write_asked(input, "relations", "file", *file),
+            Line::Decision(decision) => write_asked(input, "decision", "decision", *decision),
             Line::Page(place, n, at_most) => write_page(input, *place, *n, *at_most),
             Line::PairCount(at_most) => {
                 write_asked(input, "pair_count", "at_most", u32::from(*at_most))

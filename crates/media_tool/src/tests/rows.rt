@@ -2,7 +2,7 @@
 
 use crate::tests::lines::Code::{Alternates, Better, NotRelated, Same, Worse};
 use crate::tests::lines::Line::{
-    self, Decide, Delete, Hashed, Import, Page, PairCount, Relations, Search, SearchBoth,
+    self, Decide, Decision, Delete, Hashed, Import, Page, PairCount, Relations, Search, SearchBoth,
     SearchDistance, SearchJob, Spaces, Text, Undelete, Undo,
 };
 use crate::tests::playing::Manner;
@@ -98,7 +98,7 @@ const DUPLICATES: [Case; 5] = [
     },
 ];
 
-const UNDOINGS: [Case; 2] = [
+const UNDOINGS: [Case; 3] = [
     Case {
         shows: "the decisions behind an undone one stand",
         files: 3,
@@ -141,6 +141,24 @@ const UNDOINGS: [Case; 2] = [
                 Relations(0),
                 r#"{"king":0,"members":[0],"alternates":[],"not_related":[1]}"#,
             ),
+        ],
+    },
+    Case {
+        shows: "a decision is told as it was recorded, also once it is undone",
+        files: 2,
+        rows: &[
+            (Decide(Better, 0, 1), DECISION_0),
+            (Decide(Worse, 0, 1), DECISION_1),
+            (
+                Decision(0),
+                r#"{"code":4,"a":0,"b":1,"undone":false,"rule":[]}"#,
+            ),
+            (Undo(1), r#"{"undone":1}"#),
+            (
+                Decision(1),
+                r#"{"code":4,"a":1,"b":0,"undone":true,"rule":[]}"#,
+            ),
+            (Decision(2), r#"{"error":"unknown_decision"}"#),
         ],
     },
 ];

@@ -1,5 +1,4 @@
-use Rattle.std.proofs.Common.{◌<◌, ◌≤◌, length, arith, rules}
-use Rattle.tag_types.specs.declared.limits.TheConstants.{MAX_SERVICES}
+use Rattle.std.proofs.Common.{rules}
 use Rattle.tag_types.proofs.ServiceLists.{filled-push}
 use Rattle.tag_types.proofs.service_list.ServiceList.push.Goals as goal
 

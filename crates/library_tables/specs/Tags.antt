@@ -1,0 +1,43 @@
+-- What planned changes of services and mappings lead to.
+use Rattle.std.specs.Prelude.{◌≡◌, ◌<◌, ◌≤◌, ℕ, true, false, List, length, Option, Some, None}
+use Rattle.media_base.specs.declared.change.Mapping.{Mapping}
+use Rattle.tag_types.specs.declared.limits.TheConstants.{MAX_SERVICES, MAX_TAGS}
+use Rattle.tag_store.specs.Numbering.{is_tag, number_or_next}
+use Rattle.library_machine.specs.Records.{Records, Fits}
+use Rattle.library_machine.specs.Tagging.{with_mapping, with_orders, with_service}
+use Rattle.library_tables.specs.declared.tags.PlannedMapping.{PlannedMapping}
+use Rattle.library_tables.specs.declared.tags.PlannedOrders.{PlannedOrders}
+use Rattle.library_tables.specs.Tables.{TablesView, records_of}
+
+-- a service can be added, and then these are the records
+pub record LeadsService (t : TablesView) (after : Records) : Type 0 where
+  pub few : length t.services < MAX_SERVICES
+  pub fits : Fits after
+  pub leads : after ≡ with_service (records_of t)
+
+-- so can these orders be set
+pub record LeadsOrders (plan : PlannedOrders) (t : TablesView) (after : Records) : Type 0 where
+  pub known : plan.service.0 < length t.services
+  pub fits : Fits after
+  pub leads : after ≡ with_orders (records_of t) plan.service plan.orders
+
+-- the tag of a plan has a number, or is new, and then there is room for it
+abbrev pub HasTagRoom : Option (List ℕ) → List ℕ → TablesView → Type 0
+HasTagRoom None text t = is_tag text t.tags.texts ≡ true
+HasTagRoom (Some new) text t = (new ≡ text) × (is_tag text t.tags.texts ≡ false) × (length t.tags.texts < MAX_TAGS) × (1 ≤ t.tags.spare)
+
+-- the plan is this mapping, with its tag's number, in room that was made
+pub record IsReady (plan : PlannedMapping) (m : Mapping) (t : TablesView) : Type 0 where
+  pub service : plan.service ≡ m.service
+  pub file : plan.file ≡ m.file
+  pub state : plan.state ≡ m.state
+  pub tag : plan.tag.0 ≡ number_or_next m.tag t.tags.texts
+  pub tag_room : HasTagRoom plan.new_tag m.tag t
+  pub room : 1 ≤ t.mappings.spare
+
+-- the mapping can be set, and then these are the records
+pub record LeadsMapping (plan : PlannedMapping) (t : TablesView) (after : Records) : Type 0 where
+  pub mapping : Mapping
+  pub ready : IsReady plan mapping t
+  pub fits : Fits after
+  pub leads : after ≡ with_mapping (records_of t) mapping
