@@ -118,7 +118,7 @@ none_behind a b k (row ∷ rows) past later = elim (cases_Bool (row.0.0 == a && 
 ]
 
 -- behind a row of other first numbers there is none of these
-pub lasts-other : (a b : ℕ) (row : Row) (rows : List Row) → AscendFrom a b (row ∷ rows) → row.0.0 == a && row.0.1 == b ≡ false → (lasts a b (row ∷ rows) ≡ []) × (lasts a b rows ≡ [])
+pub lasts-other : (a b : ℕ) (row : Row) (rows : List Row) → AscendFrom a b (row ∷ rows) → row.0.0 == a && row.0.1 == b ≡ false → lasts a b (row ∷ rows) ≡ []
 unfolding IsStrictlySortedBy
 lasts-other a b row rows ascend other =
     let past : pair_cmp (row.0.0, row.0.1) (a, b) ≡ Greater = by_ordering (pair_cmp (a, b) (row.0.0, row.0.1))
@@ -128,8 +128,14 @@ lasts-other a b row rows ascend other =
     let second : row.0.1 == b ≡ true = eq-eqb row.0.1 b (ap (λ (p : ℕ × ℕ). p.1) (sym same)) in
     absurd (let is : true ≡ false = rw (first, second) at other in cc))
     (λ greater. absurd (ascend.least.0 greater)) in
-    let behind = none_behind a b row.0 rows past ascend.sorted.0 in
-    (rw other behind, behind)
+    rw other (none_behind a b row.0 rows past ascend.sorted.0)
+
+-- where there is none of them there is none behind the first row
+pub lasts-later : (a b : ℕ) (row : Row) (rows : List Row) → lasts a b (row ∷ rows) ≡ [] → lasts a b rows ≡ []
+lasts-later a b row rows none = elim (cases_Bool (row.0.0 == a && row.0.1 == b)) [
+  | inl both ↦ let never : (row.0.2, row.1) ∷ lasts a b rows ≡ [] = rw both at none in cc
+  | inr other ↦ rw other at none
+]
 
 pub lasts-this : (a b : ℕ) (row : Row) (rows : List Row) → row.0.0 ≡ a → row.0.1 ≡ b → lasts a b (row ∷ rows) ≡ (row.0.2, row.1) ∷ lasts a b rows
 lasts-this a b row rows first second = rw (eq-eqb row.0.0 a first, eq-eqb row.0.1 b second) refl

@@ -1,12 +1,12 @@
 -- Laws of mappings: what they say once one is set or taken out, and that the tags of a file and the files of a tag
 -- say the same.
-use Rattle.std.proofs.Common.{◌≡◌, ◌≢◌, ◌⊎◌, ◌↔◌, ◌∙◌, ◌+◌, ◌<◌, ◌==◌, ◌&&◌, ℕ, true, cond, List, [], ◌∷◌, length, get_or, Option, Some, None, refl, sym, ap, arith}
+use Rattle.std.proofs.Common.{◌≡◌, ◌≢◌, ◌⊎◌, ◌↔◌, ◌∙◌, ◌+◌, ◌<◌, ◌==◌, ◌&&◌, ℕ, true, cond, List, [], ◌∷◌, length, get_or, Option, Some, None, refl, sym, ap, inl, inr, arith}
 use Rattle.std.specs.BTreeMap.{insert_entry, is_at}
-use Rattle.std.specs.Cmp.{IsTotalOrder, nat_cmp_total, tied_itself}
+use Rattle.std.specs.Cmp.{IsTotalOrder, nat_cmp_is, nat_cmp_total, tied_itself}
 use Rattle.std.specs.List.{AllPairs, Contains}
 use Rattle.std.specs.List.Sorted.{IsStrictlySortedBy}
 use Rattle.std.specs.Map.{keys_of}
-use Rattle.std.specs.Option.{is_some}
+use Rattle.std.specs.Option.{MatchOption, is_some}
 use Rattle.std.specs.Ordering.{nat_cmp, ordering_then}
 use Rattle.std.specs.declared.cmp.Ordering.{Ordering}
 use Rattle.std.specs.declared.cmp.Ordering.TheVariants.{Less, Equal, Greater}
@@ -16,16 +16,17 @@ use Rattle.std.proofs.lemmas.List.{get_or-map, length-map}
 use Rattle.std.proofs.lemmas.Map.{lookup-none}
 use Rattle.std.proofs.lemmas.Map.Entries.{none_below_head}
 use Rattle.std.proofs.lemmas.Map.Keys.{Less-from_sorted, sorted_tail}
+use Rattle.media_types.specs.Numbered.{is_past}
 use Rattle.media_types.specs.declared.numbers.FileNo.{FileNo}
 use Rattle.media_types.specs.declared.numbers.TagNo.{TagNo}
-use Rattle.spare_tables.specs.EditLaws.{same_or_not, sorted-insert_entry, sorted-without_row, value_put, value_put_other, value_taken, value_taken_other}
+use Rattle.spare_tables.specs.EditLaws.{same_or_not, same_rows, sorted-insert_entry, sorted-without_row, value_put, value_put_other, value_taken, value_taken_other}
 use Rattle.spare_tables.specs.KeyLaws.{by_ordering}
 use Rattle.spare_tables.specs.Keys.{value_of, without_row}
 use Rattle.spare_tables.specs.Order.{file_cmp, file_exact, number_exact, triple_cmp, triple_exact}
 use Rattle.spare_tables.specs.PairLaws.{number_says}
 use Rattle.tag_types.specs.declared.map_state.MapState.{MapState}
-use Rattle.tag_store.specs.Mapped.{Ascend, Row, files_of_tag, state_of, tags_of_file, with_state}
-use Rattle.tag_store.specs.PickedLaws.{Contains-value, sorted-picked, value-picked}
+use Rattle.tag_store.specs.Mapped.{Ascend, Row, files_of_tag, first_file_past, first_tag_past, is_past_tag, state_of, tags_of_file, with_state}
+use Rattle.tag_store.specs.PickedLaws.{Contains-value, IsFirstFound, first_found, sorted-picked, value-picked}
 
 -- ---- the orders
 pub triple_order : IsTotalOrder triple_cmp
@@ -63,6 +64,21 @@ state-others rows s t f (Some state) other sorted apart = value_put_other triple
 pub Ascend-with_state : (rows : List Row) (s t f : ℕ) (state : Option MapState) → Ascend rows → Ascend (with_state rows s t f state)
 Ascend-with_state rows s t f None sorted = sorted-without_row triple_order rows (s, t, f) sorted
 Ascend-with_state rows s t f (Some state) sorted = sorted-insert_entry triple_order rows (s, t, f) state sorted
+
+-- mappings that say the same of each service, tag and file are the same
+pub same-mappings : (rows others : List Row) → Ascend rows → Ascend others → ((s t f : ℕ) → state_of rows s t f ≡ state_of others s t f) → rows ≡ others
+same-mappings rows others sorted others_sorted agree = same_rows triple_order triple_exact rows others sorted others_sorted (λ key. agree key.0 key.1 key.2)
+
+-- a mapping that is set to the state that it has changes nothing
+pub with_state-same : (rows : List Row) (s t f : ℕ) (state : Option MapState) → Ascend rows → state_of rows s t f ≡ state → with_state rows s t f state ≡ rows
+with_state-same rows s t f state sorted has = same-mappings (with_state rows s t f state) rows (Ascend-with_state rows s t f state sorted) sorted (λ a b c.
+    let this : ℕ × ℕ × ℕ = (a, b, c) in
+    elim (same_triple this (s, t, f)) [
+      | inl here ↦
+          (λ i. state_of (with_state rows s t f state) (here i).0 (here i).1 (here i).2) ∙ state-this rows s t f state sorted
+          ∙ sym has ∙ sym (λ i. state_of rows (here i).0 (here i).1 (here i).2)
+      | inr other ↦ state-others rows s t f state this sorted other
+    ])
 
 -- one where there is a state
 abbrev pub one_if : Option MapState → ℕ
@@ -138,6 +154,18 @@ module _ (rows : List Row) (s f : ℕ) where
       let second = ap (λ (t : TagNo). t.0) (get_or-map (λ (it : TagNo × MapState). it.0) tags j d d.0 within) in
       omega (arith, less, first, second)
 
+  -- the first tag after a place, if there is one: it has its state, and no tag between has any
+  pub first-tag : (after : Option TagNo) → Ascend rows
+      → MatchOption (first_tag_past after (tags_of_file rows s f)) ((t : ℕ) → is_past_tag after t ≡ true → state_of rows s t f ≡ None)
+      (λ it. (is_past_tag after it.0.0 ≡ true) × (state_of rows s it.0.0 f ≡ Some it.1) × ((t : ℕ) → is_past_tag after t ≡ true → t < it.0.0 → state_of rows s t f ≡ None))
+  first-tag after sorted = by (first_tag_past after (tags_of_file rows s f)) (first_found tag_order tag_exact (λ (it : TagNo). is_past_tag after it.0) (tags_of_file rows s f) (sorted-tags sorted)) where
+    by : (found : Option (TagNo × MapState)) → IsFirstFound tag_cmp (λ (it : TagNo). is_past_tag after it.0) (tags_of_file rows s f) found
+        → MatchOption found ((t : ℕ) → is_past_tag after t ≡ true → state_of rows s t f ≡ None)
+        (λ it. (is_past_tag after it.0.0 ≡ true) × (state_of rows s it.0.0 f ≡ Some it.1) × ((t : ℕ) → is_past_tag after t ≡ true → t < it.0.0 → state_of rows s t f ≡ None))
+    by None none = λ t past. sym (value-tags (record { 0 = t })) ∙ none (record { 0 = t }) past
+    by (Some it) (past, has, lesser) =
+        (past, sym (value-tags it.0) ∙ has, λ t between less. sym (value-tags (record { 0 = t })) ∙ lesser (record { 0 = t }) between (sym (nat_cmp_is t it.0.0 Less less)))
+
 -- ---- the files of a tag
 module _ (rows : List Row) (s t : ℕ) where
   -- a file has the state that the tag is mapped to it in
@@ -164,3 +192,15 @@ module _ (rows : List Row) (s t : ℕ) where
       let first = ap (λ (f : FileNo). f.0) (get_or-map (λ (it : FileNo × MapState). it.0) files i d d.0 (omega arith)) in
       let second = ap (λ (f : FileNo). f.0) (get_or-map (λ (it : FileNo × MapState). it.0) files j d d.0 within) in
       omega (arith, less, first, second)
+
+  -- the first file after a place, if there is one: it has its state, and no file between has any
+  pub first-file : (after : Option FileNo) → Ascend rows
+      → MatchOption (first_file_past after (files_of_tag rows s t)) ((f : ℕ) → is_past after f ≡ true → state_of rows s t f ≡ None)
+      (λ it. (is_past after it.0.0 ≡ true) × (state_of rows s t it.0.0 ≡ Some it.1) × ((f : ℕ) → is_past after f ≡ true → f < it.0.0 → state_of rows s t f ≡ None))
+  first-file after sorted = by (first_file_past after (files_of_tag rows s t)) (first_found file_order file_exact (λ (it : FileNo). is_past after it.0) (files_of_tag rows s t) (sorted-files sorted)) where
+    by : (found : Option (FileNo × MapState)) → IsFirstFound file_cmp (λ (it : FileNo). is_past after it.0) (files_of_tag rows s t) found
+        → MatchOption found ((f : ℕ) → is_past after f ≡ true → state_of rows s t f ≡ None)
+        (λ it. (is_past after it.0.0 ≡ true) × (state_of rows s t it.0.0 ≡ Some it.1) × ((f : ℕ) → is_past after f ≡ true → f < it.0.0 → state_of rows s t f ≡ None))
+    by None none = λ f past. sym (value-files (record { 0 = f })) ∙ none (record { 0 = f }) past
+    by (Some it) (past, has, lesser) =
+        (past, sym (value-files it.0) ∙ has, λ f between less. sym (value-files (record { 0 = f })) ∙ lesser (record { 0 = f }) between (sym (nat_cmp_is f it.0.0 Less less)))

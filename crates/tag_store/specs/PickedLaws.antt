@@ -1,15 +1,19 @@
 -- Rows that are picked by their keys from rows that ascend, each under a part of its key that tells it from the
 -- others: they ascend too, and have the values of the rows that they come from.
-use Rattle.std.proofs.Common.{◌≡◌, ◌↔◌, ◌∙◌, Bool, true, false, cond, List, [], ◌∷◌, Some, map, filter, refl, ap, inl, inr}
-use Rattle.std.specs.Cmp.{IsTotalOrder, Equal-is, eq_by_cmp_equiv}
+use Rattle.std.proofs.Common.{◌≡◌, ◌↔◌, ◌∙◌, Bool, true, false, cond, List, [], ◌∷◌, Option, Some, None, find, map, filter, refl, ap, inl, inr}
+use Rattle.std.specs.BTreeMap.{is_at}
+use Rattle.std.specs.Cmp.{IsTotalOrder, Equal-is, eq_by_cmp_equiv, tied_itself}
 use Rattle.std.specs.List.{AllByRecursion, Contains}
 use Rattle.std.specs.List.Sorted.{IsStrictlySortedBy}
 use Rattle.std.specs.Map.{keys_of}
+use Rattle.std.specs.Option.{MatchOption}
 use Rattle.std.specs.Ordering.{is_eq}
 use Rattle.std.specs.declared.cmp.Ordering.{Ordering}
 use Rattle.std.specs.declared.cmp.Ordering.TheVariants.{Less, Equal}
 use Rattle.std.proofs.lemmas.Bool.{cases_Bool}
-use Rattle.std.proofs.lemmas.Map.Keys.{IsDistinct-from_sorted}
+use Rattle.std.proofs.lemmas.Map.{lookup-none}
+use Rattle.std.proofs.lemmas.Map.Entries.{lookup_head, lookup_tail, none_below_head}
+use Rattle.std.proofs.lemmas.Map.Keys.{IsDistinct-from_sorted, sorted_tail}
 use Rattle.std.proofs.lemmas.Map.Views.{Contains-from_lookup, lookup-from_Contains, tells_apart}
 use Rattle.spare_tables.specs.Keys.{value_of}
 
@@ -26,6 +30,32 @@ other_key : {K : Type 0} {R : K → K → Ordering} (test : K → Bool) → ((x 
 other_key {R = R} test exact x k passes fails = elim (cases_Bool (is_eq (R x k))) [
   | inl equal ↦ let same = ap test (exact x k ((Equal-is (R x k)).0 equal)) in cc
   | inr apart ↦ apart
+]
+
+-- The found row, if there is one, is the first whose key passes: no lesser key that passes has a value. Where none
+-- is found, no key that passes has any.
+abbrev pub IsFirstFound : {K V : Type 0} → (K → K → Ordering) → (K → Bool) → List (K × V) → Option (K × V) → Type 0
+IsFirstFound {K} R passes rows found = MatchOption found ((k : K) → passes k ≡ true → value_of R rows k ≡ None)
+    (λ row. (passes row.0 ≡ true) × (value_of R rows row.0 ≡ Some row.1) × ((k : K) → passes k ≡ true → R k row.0 ≡ Less → value_of R rows k ≡ None))
+
+first_later : {K V : Type 0} (R : K → K → Ordering) (passes : K → Bool) (row : K × V) (rows : List (K × V)) (found : Option (K × V))
+    → ((k : K) → passes k ≡ true → value_of R (row ∷ rows) k ≡ value_of R rows k) → IsFirstFound R passes rows found → IsFirstFound R passes (row ∷ rows) found
+first_later R passes row rows None later none = λ k good. later k good ∙ none k good
+first_later R passes row rows (Some it) later (passing, has, lesser) = (passing, later it.0 passing ∙ has, λ k good less. later k good ∙ lesser k good less)
+
+pub first_found : {K V : Type 0} {R : K → K → Ordering} → IsTotalOrder R → ((x y : K) → R x y ≡ Equal → x ≡ y) → (passes : K → Bool) (rows : List (K × V))
+    → IsStrictlySortedBy R (keys_of rows) → IsFirstFound R passes rows (find (λ (row : K × V). passes row.0) rows)
+first_found order exact passes [] sorted = λ k passing. refl
+first_found {K} {V} {R} order exact passes (row ∷ rows) sorted = elim (cases_Bool (passes row.0)) [
+  | inl passing ↦ rw passing (
+    passing,
+    lookup_head (is_at (R row.0)) row rows (ap is_eq (tied_itself order row.0)),
+    λ k good less. lookup-none (is_at (R k)) (row ∷ rows) (none_below_head order k row rows sorted less),
+  )
+  | inr failing ↦
+      let rest = first_found order exact passes rows (sorted_tail R row.0 (keys_of rows) sorted) in
+      rw failing (first_later R passes row rows (find (λ (r : K × V). passes r.0) rows)
+      (λ k good. lookup_tail (is_at (R k)) row rows (other_key passes exact k row.0 good failing)) rest)
 ]
 
 module _ {K N V : Type 0} (test : K → Bool) (pick : K → N) where
