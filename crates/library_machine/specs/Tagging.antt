@@ -54,10 +54,13 @@ abbrev pub mapping_told : Records → Mapping → Option MapState → Answer
 mapping_told r m (Some state) = answers.Mapped (record { tag = numbered r m.tag; changed = not (is_mapped_so r m) })
 mapping_told r m None = answers.Changed (not (is_mapped_so r m))
 
+-- the texts of those of the tags whose mapping has this state
+abbrev pub texts_with : Records → MapState → List (TagNo × MapState) → List (List ℕ)
+texts_with r state tags = map (λ tag. slice_index_or r.tags tag.0.0 []) (filter (λ tag. is_state tag.1 state) tags)
+
 -- the tags of the file in the service whose mapping has this state, in the order of their numbers
 abbrev pub tags_in : Records → ServiceNo → FileNo → MapState → List (List ℕ)
-tags_in r service file state =
-    map (λ tag. slice_index_or r.tags tag.0.0 []) (filter (λ tag. is_state tag.1 state) (tags_of_file r.mappings service.0 file.0))
+tags_in r service file state = texts_with r state (tags_of_file r.mappings service.0 file.0)
 
 -- the file's tags in the service, by the state of their mapping
 abbrev pub file_mappings : Records → ServiceNo → FileNo → FileMappings

@@ -7,3 +7,4 @@ pub mod Placing
 pub mod Queueing
 pub mod Refolding
 pub mod Rising
+pub mod Telling

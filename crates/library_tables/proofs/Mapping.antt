@@ -1,7 +1,7 @@
 -- What is prepared for services and mappings is what the changes come to.
 use Rattle.std.proofs.Common.{◌≡◌, ◌≤◌, ◌<◌, ◌&&◌, ◌||◌, ◌⊎◌, inl, inr, ℕ, Bool, true, false, not, nat_lt, nat_le, Some, None, Ok, Err, Option, is_some, [], ◌∷◌, List, length, refl, arith, ap, subst, sym, ◌∙◌}
 use Rattle.std.specs.List.{list_all}
-use Rattle.std.proofs.lemmas.Bool.{ltb-true, both_ways}
+use Rattle.std.proofs.lemmas.Bool.{and_parts, ltb-true, both_ways}
 use Rattle.std.proofs.lemmas.Bool.Decides.{nat_tests}
 use Rattle.media_types.specs.declared.numbers.ServiceNo.{ServiceNo}
 use Rattle.media_base.specs.declared.change.Change.TheVariants as changes
@@ -12,7 +12,7 @@ use Rattle.tag_types.specs.declared.limits.TheConstants.{MAX_MAPPINGS, MAX_SERVI
 use Rattle.tag_types.specs.declared.map_state.MapState.{MapState}
 use Rattle.tag_types.specs.declared.orders.Orders.{Orders}
 use Rattle.tag_store.specs.Numbering.{HasPlaceFor, is_tag, number_of}
-use Rattle.tag_store.specs.NumberingLaws.{numbered_there, tagged}
+use Rattle.tag_store.specs.NumberingLaws.{is_numbered, numbered_there, tagged}
 use Rattle.library_machine.specs.Changing.{answer_to, does, effect, is_idle, mapping_needs, needs}
 use Rattle.library_machine.specs.Guards.{guarded}
 use Rattle.library_machine.specs.Laws.{ChangesKeepFit}
@@ -59,6 +59,10 @@ pub orders_unknown : (r : Records) (service : ServiceNo) (orders : Orders) → l
     does r (changes.Orders service orders) ≡ Err whys.UnknownService
 unfolding needs
 orders_unknown r service orders there = rw there refl
+
+-- the service of the orders is there
+pub service_known : (r : Records) (service : ServiceNo) (orders : Orders) → list_all (has_service r) (services_named service orders) ≡ true → service.0 < length r.services
+service_known r service orders there = ltb-true _ _ ((and_parts (has_service r service) _ there).0)
 
 pub orders_idle : (t : TablesView) (service : ServiceNo) (orders : Orders) → list_all (has_service (records_of t)) (services_named service orders) ≡ true →
     has_orders (records_of t) service orders ≡ true → IsPrepared (changes.Orders service orders) t (prepared.Idle (answers.Service service))
@@ -113,19 +117,18 @@ taken_does : (r : Records) (m : Mapping) → IsOfThere r m → is_some m.state �
     does r (changes.Mapping m) ≡ guarded (is_met r) unmet (tag_there m.tag ∷ []) (is_mapped_so r m)
 taken_does r m there is = there_does r m there ∙ ap (λ (left : List Need). guarded (is_met r) unmet left (is_mapped_so r m)) (taken_needs m m.state is)
 
-pub no_tag_room : (r : Records) (m : Mapping) → IsOfThere r m → is_some m.state ≡ true → has_tag r m.tag ≡ false → nat_lt (length r.tags) MAX_TAGS ≡ false →
-    does r (changes.Mapping m) ≡ Err whys.FullTags
-no_tag_room r m there is new full = set_does r m there is ∙ rw (new, full) refl
+pub no_tag_room : (r : Records) (m : Mapping) → IsOfThere r m → is_some m.state ≡ true → is_met r (room_for_tag m.tag) ≡ false → does r (changes.Mapping m) ≡ Err whys.FullTags
+no_tag_room r m there is full = set_does r m there is ∙ rw full refl
 
-pub no_mapping_room : (r : Records) (m : Mapping) → IsOfThere r m → is_some m.state ≡ true → has_tag r m.tag || nat_lt (length r.tags) MAX_TAGS ≡ true →
-    has_mapping r m ≡ false → nat_lt (length r.mappings) MAX_MAPPINGS ≡ false → does r (changes.Mapping m) ≡ Err whys.FullMappings
-no_mapping_room r m there is room new full = set_does r m there is ∙ rw (room, new, full) refl
+pub no_mapping_room : (r : Records) (m : Mapping) → IsOfThere r m → is_some m.state ≡ true → is_met r (room_for_tag m.tag) ≡ true →
+    is_met r (room_for_mapping m) ≡ false → does r (changes.Mapping m) ≡ Err whys.FullMappings
+no_mapping_room r m there is room full = set_does r m there is ∙ rw (room, full) refl
 
 pub no_such_tag : (r : Records) (m : Mapping) → IsOfThere r m → is_some m.state ≡ false → has_tag r m.tag ≡ false → does r (changes.Mapping m) ≡ Err whys.UnknownTag
 no_such_tag r m there is new = taken_does r m there is ∙ rw new refl
 
-pub set_met : (r : Records) (m : Mapping) → IsOfThere r m → is_some m.state ≡ true → has_tag r m.tag || nat_lt (length r.tags) MAX_TAGS ≡ true →
-    has_mapping r m || nat_lt (length r.mappings) MAX_MAPPINGS ≡ true → does r (changes.Mapping m) ≡ Ok (is_mapped_so r m)
+pub set_met : (r : Records) (m : Mapping) → IsOfThere r m → is_some m.state ≡ true → is_met r (room_for_tag m.tag) ≡ true → is_met r (room_for_mapping m) ≡ true →
+    does r (changes.Mapping m) ≡ Ok (is_mapped_so r m)
 set_met r m there is tag mapping = set_does r m there is ∙ rw (tag, mapping) refl
 
 pub taken_met : (r : Records) (m : Mapping) → IsOfThere r m → is_some m.state ≡ false → has_tag r m.tag ≡ true → does r (changes.Mapping m) ≡ Ok (is_mapped_so r m)
@@ -167,3 +170,12 @@ place_for text texts is = by_test (is_some (number_of text texts)) refl is where
   by_test : (known : Bool) → is_some (number_of text texts) ≡ known → known || nat_lt (length texts) MAX_TAGS ≡ true → HasPlaceFor text texts
   by_test true known room = inl ((tagged text texts).1 ((numbered_there text texts).0 known))
   by_test false known room = inr (ltb-true _ _ room)
+
+-- a text is a tag exactly where it has a number
+pub known_tag : (text : List ℕ) (texts : List (List ℕ)) (known : Bool) → is_some (number_of text texts) ≡ known → is_tag text texts ≡ known
+known_tag text texts known is = sym (is_numbered text texts) ∙ is
+
+-- a text that is new and has a place has room
+pub room_for_new : (text : List ℕ) (texts : List (List ℕ)) → HasPlaceFor text texts → is_tag text texts ≡ false → length texts < MAX_TAGS
+room_for_new text texts (inl known) new = absurd (both_ways _ new known)
+room_for_new text texts (inr room) new = room

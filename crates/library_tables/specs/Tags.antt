@@ -1,10 +1,14 @@
 -- What planned changes of services and mappings lead to.
-use Rattle.std.specs.Prelude.{◌≡◌, ◌<◌, ◌≤◌, ℕ, true, false, List, length, Option, Some, None}
+use Rattle.std.specs.Prelude.{◌≡◌, ◌<◌, ◌≤◌, ℕ, true, false, List, [], ◌∷◌, ◌++◌, length, Option, Some, None}
+use Rattle.media_types.specs.declared.numbers.TagNo.{TagNo}
 use Rattle.media_base.specs.declared.change.Mapping.{Mapping}
+use Rattle.media_base.specs.declared.reply.FileMappings.{FileMappings}
+use Rattle.tag_types.specs.declared.map_state.MapState.{MapState}
+use Rattle.tag_types.specs.declared.map_state.MapState.TheVariants as states
 use Rattle.tag_types.specs.declared.limits.TheConstants.{MAX_SERVICES, MAX_TAGS}
 use Rattle.tag_store.specs.Numbering.{is_tag, number_or_next}
 use Rattle.library_machine.specs.Records.{Records, Fits}
-use Rattle.library_machine.specs.Tagging.{with_mapping, with_orders, with_service}
+use Rattle.library_machine.specs.Tagging.{texts_with, with_mapping, with_orders, with_service}
 use Rattle.library_tables.specs.declared.tags.PlannedMapping.{PlannedMapping}
 use Rattle.library_tables.specs.declared.tags.PlannedOrders.{PlannedOrders}
 use Rattle.library_tables.specs.Tables.{TablesView, records_of}
@@ -41,3 +45,17 @@ pub record LeadsMapping (plan : PlannedMapping) (t : TablesView) (after : Record
   pub ready : IsReady plan mapping t
   pub fits : Fits after
   pub leads : after ≡ with_mapping (records_of t) mapping
+
+-- what is told, with this text last among those whose mapping has this state
+abbrev pub with_text : FileMappings → MapState → List ℕ → FileMappings
+with_text told states.Current text = record told { current = told.current ++ text ∷ [] }
+with_text told states.Pending text = record told { pending = told.pending ++ text ∷ [] }
+with_text told states.Deleted text = record told { deleted = told.deleted ++ text ∷ [] }
+
+-- what is told, and then these tags
+abbrev pub told_then : Records → FileMappings → List (TagNo × MapState) → FileMappings
+told_then r told tags = record {
+  current = told.current ++ texts_with r states.Current tags;
+  pending = told.pending ++ texts_with r states.Pending tags;
+  deleted = told.deleted ++ texts_with r states.Deleted tags;
+}

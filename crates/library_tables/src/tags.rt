@@ -1,18 +1,19 @@
 //! Services, and the tags that are mapped to files.
 
-ghost use Rattle.std.specs.Prelude.{◌≡◌, ◌<◌, ◌≤◌, ◌+◌, true, false, IfOk, is_some, length};
+ghost use Rattle.std.specs.Prelude.{◌≡◌, ◌<◌, ◌≤◌, ◌+◌, ◌||◌, true, false, nat_lt, IfOk, OnOk, is_some, length};
 ghost use Rattle.std.specs.List.{list_all};
 ghost use Rattle.media_base.specs.declared.change.Change.TheVariants as changes;
 ghost use Rattle.media_base.specs.declared.command.Query.TheVariants as queries;
+ghost use Rattle.tag_types.specs.declared.limits.TheConstants.{MAX_MAPPINGS};
 ghost use Rattle.tag_store.specs.Numbering.{HasPlaceFor};
 ghost use Rattle.library_machine.specs.Asking as machine;
-ghost use Rattle.library_machine.specs.Needs.{has_file, has_service, has_tag};
-ghost use Rattle.library_machine.specs.Records.{Records};
-ghost use Rattle.library_machine.specs.Tagging.{file_mappings, has_orders, is_same, mapped, numbered, services_named};
+ghost use Rattle.library_machine.specs.Needs.{has_file, has_service, has_tag, is_met, room_for_tag};
+ghost use Rattle.library_machine.specs.Records.{Fits, Records};
+ghost use Rattle.library_machine.specs.Tagging.{file_mappings, is_same, mapped, numbered, services_named};
 ghost use Rattle.library_tables.specs.Counting.{mappings_reads};
 ghost use Rattle.library_tables.specs.Preparing.{IsPrepared};
 ghost use Rattle.library_tables.specs.Tables.{HasWords, records_of};
-ghost use Rattle.library_tables.specs.Tags.{HasTagRoom, IsReady, LeadsMapping, LeadsOrders, LeadsService};
+ghost use Rattle.library_tables.specs.Tags.{HasTagRoom, IsReady, LeadsMapping, LeadsOrders, LeadsService, with_text};
 
 use crate::plan::{Prepared, TablesPlan};
 use crate::tables::Tables;
@@ -78,7 +79,7 @@ impl Tables {
             return Ok(Unmet::UnknownService.into());
         }
         let answer = Answer::Service(service);
-        if self.has_orders(service, orders) {
+        if *self.services.orders(service) == *orders {
             return Ok(Prepared::Idle(answer));
         }
         library_machine::records_stay_fit();
@@ -87,13 +88,6 @@ impl Tables {
             orders: *orders,
         };
         Ok(Prepared::Ready(TablesPlan::Orders(plan), answer))
-    }
-
-    fn has_orders(&self, service: ServiceNo, orders: &Orders) -> bool
-        requires { service.0 < length self.now.services }
-        ensures { result ≡ has_orders (records_of self.now) service orders.now }
-    {
-        *self.services.orders(service) == *orders
     }
 
     // Whether the service is there, and all that the orders name.
@@ -149,10 +143,10 @@ impl Tables {
         ensures tree { self.new.tree.rows ≡ self.old.tree.rows }
         ensures prepared { IfOk result (IsPrepared (changes.Mapping mapping.now) self.new) }
     {
-        if !self.has_tag(&mapping.tag) && self.tags.len() >= MAX_TAGS {
+        if !self.has_room_for_tag(&mapping.tag) {
             return Ok(Unmet::FullTags.into());
         }
-        if found.is_none() && self.mappings.len() >= MAX_MAPPINGS {
+        if !self.has_room_for_mapping(found) {
             return Ok(Unmet::FullMappings.into());
         }
         let is_so = is_same(found, mapping.state);
@@ -200,6 +194,19 @@ impl Tables {
         self.tags.find(text).is_some()
     }
 
+    fn has_room_for_tag(&self, text: &TagText) -> bool
+        ensures { result ≡ is_met (records_of self.now) (room_for_tag text.now) }
+    {
+        self.has_tag(text) || self.tags.len() < MAX_TAGS
+    }
+
+    // Whether there is room for a mapping that is found so.
+    fn has_room_for_mapping(&self, found: Option<MapState>) -> bool
+        ensures { result ≡ (is_some found || nat_lt (length self.now.mappings.rows) MAX_MAPPINGS) }
+    {
+        found.is_some() || self.mappings.len() < MAX_MAPPINGS
+    }
+
     // The number that the text has, or would have.
     fn numbered(&self, text: &TagText) -> TagNo
         ensures { result ≡ numbered (records_of self.now) text.now }
@@ -225,6 +232,7 @@ impl Tables {
         requires { HasPlaceFor mapping.now.tag self.old.tags.texts }
         ensures records { records_of self.new ≡ records_of self.old }
         ensures tree { self.new.tree.rows ≡ self.old.tree.rows }
+        ensures fits { Fits (records_of self.new) }
         ensures ready { IfOk result (λ plan. IsReady plan mapping.now self.new) }
     {
         self.mappings.reserve()?;
@@ -332,13 +340,20 @@ impl Tables {
         let mut walk = self.mappings.walk_file(service, file, steps);
         while let Some((tag, state)) = walk.next(steps) {
             let text = self.tags.text(tag).copied(self.alloc)?;
-            match state {
-                MapState::Current => told.current.push(text)?,
-                MapState::Pending => told.pending.push(text)?,
-                MapState::Deleted => told.deleted.push(text)?,
-            }
+            put_text(&mut told, state, text)?;
         }
         Ok(told)
+    }
+}
+
+// Puts the text last among those whose mapping has this state.
+fn put_text(told: &mut FileMappings, state: MapState, text: TagText) -> Result<(), NoMemory>
+    ensures { OnOk result (told.new ≡ with_text told.old state text) }
+{
+    match state {
+        MapState::Current => told.current.push(text),
+        MapState::Pending => told.pending.push(text),
+        MapState::Deleted => told.deleted.push(text),
     }
 }
 

@@ -35,7 +35,7 @@ some_by : (test : Bool) (n : ℕ) → is_some (cond test (Some n) None) ≡ test
 some_by true n = refl
 some_by false n = refl
 
-is_numbered : (text : List ℕ) (texts : List (List ℕ)) → is_some (number_of text texts) ≡ is_tag text texts
+pub is_numbered : (text : List ℕ) (texts : List (List ℕ)) → is_some (number_of text texts) ≡ is_tag text texts
 is_numbered text texts = some_by _ _ ∙ sym (any_by_place (bytes_eq text) texts)
 
 -- a text has a number exactly where it is among the texts
