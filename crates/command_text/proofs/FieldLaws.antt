@@ -1,26 +1,32 @@
 -- Each form of field is read as what it says.
-use Rattle.std.proofs.Common.{◌≡◌, ℕ, ◌^◌, ◌==◌, ◌<◌, ◌⊎◌, inl, inr, Bool, true, false, cond, List, [], ◌∷◌, map, Option, Some, None, option_map, option_and_then, refl, sym, ap, subst, ◌∙◌, arith}
+use Rattle.std.proofs.Common.{◌≡◌, ℕ, ◌^◌, ◌==◌, ◌<◌, ◌⊎◌, inl, inr, Bool, true, false, cond, List, [], ◌∷◌, codes, map, Option, Some, None, option_map, option_and_then, refl, sym, ap, subst, ◌∙◌, arith}
 use Rattle.std.specs.Prelude.{All}
 use Rattle.std.specs.Option.{is_none}
+use Rattle.std.specs.Str.{bytes_eq}
 use Rattle.std.proofs.lemmas.Bool.{and_parts, eqb-true}
 use Rattle.std.proofs.lemmas.Bool.Decides.{nat_tests}
+use Rattle.std.proofs.lemmas.Slice.Eq.{bytes_eq-Decides}
 use Rattle.std.proofs.lemmas.List.Elements.{All-nil, All-cons, All-head, All-tail}
 use Rattle.serde_json.specs.Data.{Data, null, boolean, number, string, array, object, Items, no_items, item, Num, unsigned, negative, float}
 use Rattle.serde_json.specs.Find.{as_str, as_number, as_u64, as_array}
 use Rattle.serde_json.specs.View.{items_of}
 use Rattle.media_types.specs.declared.decision.Code.TheVariants as codes_of
 use Rattle.media_types.specs.declared.numbers.FileNo.{FileNo}
+use Rattle.media_types.specs.declared.numbers.ServiceNo.{ServiceNo}
+use Rattle.tag_types.specs.declared.map_state.MapState.{MapState}
+use Rattle.tag_types.specs.declared.map_state.MapState.TheVariants as states
 use Rattle.media_base.specs.declared.refusal.FieldName.{FieldName}
 use Rattle.media_base.specs.declared.refusal.Refusal.TheVariants as refusals
 use Rattle.command_text.specs.declared.asked_code.AskedCode.{AskedCode}
 use Rattle.command_text.specs.declared.asked_code.AskedCode.TheVariants as asked_codes
-use Rattle.command_text.specs.Forms.{field_of, text_of, number_of, list_of, each_of, below, texts_of, texts_if_any, file_in, files_of, asked_code, lacks_both, Form, a_text, a_number, a_file, texts_or_none, some_files, a_code, a_file_beside, Said, says, said_at}
-use Rattle.command_text.specs.Spelling.{HasField, HasText, HasNumber, HasFiles, code_number, HasFileBeside, Has, HasForm}
+use Rattle.command_text.specs.Forms.{field_of, text_of, number_of, list_of, each_of, below, texts_of, texts_if_any, number_in, file_in, files_of, service_in, is_order, as_order, order_of, asked_code, state_of, lacks_both, Form, a_text, a_number, a_file, texts_or_none, some_files, a_code, a_service, an_order, a_state, a_file_beside, Said, says, said_at}
+use Rattle.command_text.specs.Spelling.{HasField, HasText, HasNumber, HasFiles, HasOrder, code_number, state_text, HasFileBeside, Has, HasForm}
+use Rattle.command_text.proofs.OrderLaws.{is_order-true, is_order-of}
 use Rattle.command_text.proofs.Steps.{Tells, tells_formed}
 
 -- ---- options
 
-some_same : {A : Type 0} (a b : A) → Some a ≡ Some b → a ≡ b
+pub some_same : {A : Type 0} (a b : A) → Some a ≡ Some b → a ≡ b
 some_same a b e = cc e
 
 pub then_some : {A B : Type 0} (f : A → Option B) (o : Option A) (y : B) → option_and_then f o ≡ Some y → (x : A) × (o ≡ Some x) × (f x ≡ Some y)
@@ -102,6 +108,16 @@ number_below-has : (name : FieldName) (limit : ℕ) (value : Data) (n : ℕ) →
 number_below-has name limit value n has =
     ap (option_and_then (below limit)) (number_of-has name value n has.is) ∙ below-fits limit n has.fits
 
+-- a whole number below the limit, which is this one
+number_like : (limit : ℕ) (value : Data) (n m : ℕ) → number_in limit value ≡ Some n → n ≡ m → (value ≡ number (unsigned m)) × (m < limit)
+number_like limit value n m e same =
+    let p = then_some (below limit) (option_and_then as_u64 (as_number value)) n e in
+    let q = then_some as_u64 (as_number value) p.0 p.1 in
+    let fits = below-some limit p.0 n p.2 in (
+      as_number-some value q.0 q.1 ∙ ap number (as_u64-some q.0 p.0 q.2) ∙ ap (λ (n : ℕ). number (unsigned n)) (fits.0 ∙ same),
+      subst (λ (n : ℕ). n < limit) (fits.0 ∙ same) fits.1,
+    )
+
 -- ---- lists
 
 module _ {A : Type 0} (says : Data → Option A) (spelled : A → Data) (Fits : A → Type 0) (there : (value : Data) (x : A) → says value ≡ Some x → (value ≡ spelled x) × Fits x) where
@@ -136,14 +152,8 @@ FileFits file = file.0 < 2 ^ 32
 
 file_in-some : (value : Data) (file : FileNo) → file_in value ≡ Some file → (value ≡ file_data file) × FileFits file
 file_in-some value file e =
-    let p = map_some (λ n. record { 0 = n }) (option_and_then (below (2 ^ 32)) (option_and_then as_u64 (as_number value))) file e in
-    let q = then_some (below (2 ^ 32)) (option_and_then as_u64 (as_number value)) p.0 p.1 in
-    let r = then_some as_u64 (as_number value) q.0 q.1 in
-    let fits = below-some (2 ^ 32) q.0 p.0 q.2 in
-    let same : q.0 ≡ file.0 = fits.0 ∙ ap (λ (file : FileNo). file.0) p.2 in (
-      as_number-some value r.0 r.1 ∙ ap number (as_u64-some r.0 q.0 r.2) ∙ ap (λ (n : ℕ). number (unsigned n)) same,
-      subst (λ (n : ℕ). n < 2 ^ 32) same fits.1,
-    )
+    let p = map_some (λ n. record { 0 = n }) (number_in (2 ^ 32) value) file e in
+    number_like (2 ^ 32) value p.0 file.0 p.1 (ap (λ (file : FileNo). file.0) p.2)
 
 file_in-spelled : (file : FileNo) → FileFits file → file_in (file_data file) ≡ Some file
 file_in-spelled file fits = ap (option_map (λ n. record { 0 = n })) (below-fits (2 ^ 32) file.0 fits)
@@ -168,6 +178,78 @@ files_in-has : (name : FieldName) (value : Data) (files : List FileNo) → HasFi
 files_in-has name value files has =
     ap (λ (field : Option Data). option_and_then files_of (option_and_then as_array field)) has.is
     ∙ each_of-spelled file_in file_data FileFits file_in-spelled files has.fit
+
+-- ---- services
+
+abbrev service_data : ServiceNo → Data
+service_data service = number (unsigned service.0)
+
+abbrev ServiceFits : ServiceNo → Type 0
+ServiceFits service = service.0 < 2 ^ 8
+
+service_in-some : (value : Data) (service : ServiceNo) → service_in value ≡ Some service → (value ≡ service_data service) × ServiceFits service
+service_in-some value service e =
+    let p = map_some (λ n. record { 0 = n }) (number_in (2 ^ 8) value) service e in
+    number_like (2 ^ 8) value p.0 service.0 p.1 (ap (λ (service : ServiceNo). service.0) p.2)
+
+service_in-spelled : (service : ServiceNo) → ServiceFits service → service_in (service_data service) ≡ Some service
+service_in-spelled service fits = ap (option_map (λ n. record { 0 = n })) (below-fits (2 ^ 8) service.0 fits)
+
+service-some : (value : Data) (name : FieldName) (service : ServiceNo) → option_and_then service_in (field_of name value) ≡ Some service → HasNumber value name (2 ^ 8) service.0
+service-some value name service e =
+    let p = then_some service_in (field_of name value) service e in
+    let spelled = service_in-some p.0 service p.2 in
+    record { is = p.1 ∙ ap Some spelled.0; fits = spelled.1 }
+
+service-has : (value : Data) (name : FieldName) (service : ServiceNo) → HasNumber value name (2 ^ 8) service.0 → option_and_then service_in (field_of name value) ≡ Some service
+service-has value name service has = ap (option_and_then service_in) has.is ∙ service_in-spelled service has.fits
+
+-- the list, where it is an order
+as_order-some : (test : Bool) (services order : List ServiceNo) → cond test (Some services) None ≡ Some order → (test ≡ true) × (services ≡ order)
+as_order-some true services order e = (refl, some_same services order e)
+as_order-some false services order e = cc e
+
+order-some : (name : FieldName) (value : Data) (order : List ServiceNo) → option_and_then order_of (list_of name value) ≡ Some order → HasOrder value name order
+order-some name value order e =
+    let p = then_some order_of (list_of name value) order e in
+    let q = then_some as_array (field_of name value) p.0 p.1 in
+    let r = then_some as_order (each_of service_in p.0) order p.2 in
+    let made = as_order-some (is_order r.0) r.0 order r.2 in
+    let spelled = each_of-some service_in service_data ServiceFits service_in-some p.0 order (r.1 ∙ ap Some made.1) in
+    let parts = is_order-true order (ap is_order (sym made.1) ∙ made.0) in
+    record { is = q.1 ∙ ap Some (as_array-some q.0 p.0 q.2 ∙ ap array spelled.0); fit = spelled.1; few = parts.0; distinct = parts.1 }
+
+order-has : (name : FieldName) (value : Data) (order : List ServiceNo) → HasOrder value name order → option_and_then order_of (list_of name value) ≡ Some order
+order-has name value order has =
+    ap (λ (field : Option Data). option_and_then order_of (option_and_then as_array field)) has.is
+    ∙ ap (option_and_then as_order) (each_of-spelled service_in service_data ServiceFits service_in-spelled order has.fit)
+    ∙ ap (λ (test : Bool). cond test (Some order) None) (is_order-of order has.few has.distinct)
+
+-- ---- states
+
+chosen_state : (first second third : Bool) (state : MapState) → cond first (Some states.Current) (cond second (Some states.Pending) (cond third (Some states.Deleted) None)) ≡ Some state
+    → ((first ≡ true) × (state ≡ states.Current)) ⊎ (((second ≡ true) × (state ≡ states.Pending)) ⊎ ((third ≡ true) × (state ≡ states.Deleted)))
+chosen_state true second third state h = inl (refl, cc h)
+chosen_state false true third state h = inr (inl (refl, cc h))
+chosen_state false false true state h = inr (inr (refl, cc h))
+chosen_state false false false state h = cc h
+
+state_of-text : (text : List ℕ) (state : MapState) → state_of text ≡ Some state → text ≡ state_text state
+state_of-text text state h =
+    elim (chosen_state (bytes_eq text (codes "current")) (bytes_eq text (codes "pending")) (bytes_eq text (codes "deleted")) state h) [
+      | inl p ↦ (bytes_eq-Decides text (codes "current")).0 p.0 ∙ ap state_text (sym p.1)
+      | inr (inl p) ↦ (bytes_eq-Decides text (codes "pending")).0 p.0 ∙ ap state_text (sym p.1)
+      | inr (inr p) ↦ (bytes_eq-Decides text (codes "deleted")).0 p.0 ∙ ap state_text (sym p.1)
+    ]
+
+state_text-of : (state : MapState) → state_of (state_text state) ≡ Some state
+state_text-of states.Current = refl
+state_text-of state = refl
+
+state-some : (value : Data) (name : FieldName) (state : MapState) → option_and_then state_of (text_of name value) ≡ Some state → Has value name a_state state
+state-some value name state e =
+    let p = then_some state_of (text_of name value) state e in
+    subst (HasText value name) (state_of-text p.0 state p.2) (text_of-some name value p.0 p.1)
 
 -- ---- a list of texts that may be missing
 
@@ -263,6 +345,9 @@ says-some value name a_file file e = file-some value name file e
 says-some value name texts_or_none texts e = texts-some value name (field_of name value) texts refl e
 says-some value name some_files files e = files_in-some name value files e
 says-some value name a_code asked e = code-some value name asked e
+says-some value name a_service service e = service-some value name service e
+says-some value name an_order order e = order-some name value order e
+says-some value name a_state state e = state-some value name state e
 says-some value name (a_file_beside other) file e = beside-some value name other (lacks_both name other value) file refl e
 
 says-has : (value : Data) (name : FieldName) (form : Form) (x : Said form) → Has value name form x → says form name value ≡ Some x
@@ -272,6 +357,9 @@ says-has value name a_file file has = file-has value name file has
 says-has value name texts_or_none texts has = texts-has value name texts has
 says-has value name some_files files has = files_in-has name value files has
 says-has value name a_code asked has = ap (option_and_then asked_code) (number_of-has name value (code_number asked) has) ∙ code_number-asked asked
+says-has value name a_service service has = service-has value name service has
+says-has value name an_order order has = order-has name value order has
+says-has value name a_state state has = ap (option_and_then state_of) (text_of-has name value (state_text state) has) ∙ state_text-of state
 says-has value name (a_file_beside other) file has = beside-has value name other file has
 
 pub tells_said : (value : Data) (name : FieldName) (form : Form) → Tells (said_at name form value) (refusals.NotARequest name) (¬ (HasForm value (name, form))) (Has value name form)

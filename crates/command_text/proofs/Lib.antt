@@ -5,6 +5,7 @@ mod HexNumbers
 mod Lines
 mod LineLaws
 mod NameLaws
+mod OrderLaws
 mod ReadLaws
 mod Steps
 mod TestLaws

@@ -7,7 +7,7 @@ use Rattle.media_base.specs.declared.command.Command.{Command}
 use Rattle.media_base.specs.declared.refusal.FieldName.TheVariants as fields
 use Rattle.media_base.specs.declared.refusal.Refusal.{Refusal}
 use Rattle.media_base.specs.declared.refusal.Refusal.TheVariants as refusals
-use Rattle.command_text.specs.Commands.{CommandName, search_names, all_names, request_of}
+use Rattle.command_text.specs.Commands.{CommandName, tag_names, search_names, all_names, request_of}
 use Rattle.command_text.specs.Forms.{◌>>=◌, formed, text_of, said_at, read_request}
 use Rattle.command_text.specs.Reading.{first_at, value_command}
 use Rattle.command_text.specs.Spelling.{HasText, IsNamed}
@@ -33,7 +33,7 @@ first_named-some (first ∷ names) text name e =
 
 -- by computation, in each case
 first_named-text : (name : CommandName) → first_named all_names (request_of name).text ≡ Some name
-unfolding search_names
+unfolding search_names tag_names
 first_named-text CommandName.Import = refl
 first_named-text name = refl
 

@@ -1,12 +1,12 @@
 -- The commands: their names, their fields in order, and what they ask.
-use Rattle.std.specs.Prelude.{◌^◌, true, false, List, [], ◌∷◌, codes}
+use Rattle.std.specs.Prelude.{◌^◌, true, false, List, [], ◌∷◌, codes, Some, None}
 use Rattle.media_base.specs.declared.command.Command.TheVariants as commands
 use Rattle.media_base.specs.declared.command.Upkeep.TheVariants as upkeeps
 use Rattle.media_base.specs.declared.command.Job.TheVariants as jobs
 use Rattle.media_base.specs.declared.command.Query.TheVariants as queries
 use Rattle.media_base.specs.declared.change.Change.TheVariants as changes
 use Rattle.media_base.specs.declared.refusal.FieldName.TheVariants as fields
-use Rattle.command_text.specs.Forms.{Form, a_text, a_number, a_file, texts_or_none, some_files, a_code, a_file_beside, decision_of, place_of, Test, Made, is_sha, are_words, are_few, is_near, is_batch, is_file_batch, Asking, asks, tests, Request}
+use Rattle.command_text.specs.Forms.{Form, a_text, a_number, a_file, texts_or_none, some_files, a_code, a_service, an_order, a_state, a_file_beside, decision_of, place_of, Test, Made, is_sha, are_words, are_few, is_tag, is_near, is_batch, is_file_batch, Asking, asks, tests, Request}
 
 -- a test, and then what is asked with what it makes
 infixl 10 ◌>>=◌
@@ -28,12 +28,20 @@ pub data CommandName : Type 0 where
   SearchFiles : CommandName
   Queues : CommandName
   RebalanceJob : CommandName
+  AddService : CommandName
+  Apply : CommandName
+  Map : CommandName
+  Unmap : CommandName
+  Mappings : CommandName
 
 -- the commands, in the order in which their names are tried, some ten in a list
+unfoldable pub tag_names : List CommandName
+tag_names = CommandName.AddService ∷ CommandName.Apply ∷ CommandName.Map ∷ CommandName.Unmap ∷ CommandName.Mappings ∷ []
+
 unfoldable pub search_names : List CommandName
 search_names =
     CommandName.Pairs ∷ CommandName.PairCount ∷ CommandName.SearchDistance ∷ CommandName.SearchJob ∷ CommandName.SearchFiles ∷ CommandName.Queues ∷ CommandName.RebalanceJob
-    ∷ []
+    ∷ tag_names
 
 abbrev pub all_names : List CommandName
 all_names =
@@ -101,3 +109,24 @@ request_of CommandName.SearchFiles = record {
 }
 request_of CommandName.Queues = record { text = codes "queues"; fields = []; asked = asks (commands.Ask queries.Queues) }
 request_of CommandName.RebalanceJob = record { text = codes "rebalance_job"; fields = []; asked = asks (commands.Tend upkeeps.Rebalance) }
+request_of CommandName.AddService = record { text = codes "add_service"; fields = []; asked = asks (commands.Do changes.Service) }
+request_of CommandName.Apply = record {
+  text = codes "apply";
+  fields = (fields.Service, a_service) ∷ (fields.Siblings, an_order) ∷ (fields.Parents, an_order) ∷ [];
+  asked = λ service siblings parents. asks (commands.Do (changes.Orders service (record { siblings = siblings; parents = parents })));
+}
+request_of CommandName.Map = record {
+  text = codes "map";
+  fields = (fields.Service, a_service) ∷ (fields.Tag, a_text) ∷ (fields.File, a_file) ∷ (fields.State, a_state) ∷ [];
+  asked = λ service text file state. is_tag text >>= (λ tag. asks (commands.Do (changes.Mapping (record { service = service; tag = tag; file = file; state = Some state }))));
+}
+request_of CommandName.Unmap = record {
+  text = codes "unmap";
+  fields = (fields.Service, a_service) ∷ (fields.Tag, a_text) ∷ (fields.File, a_file) ∷ [];
+  asked = λ service text file. is_tag text >>= (λ tag. asks (commands.Do (changes.Mapping (record { service = service; tag = tag; file = file; state = None }))));
+}
+request_of CommandName.Mappings = record {
+  text = codes "mappings";
+  fields = (fields.Service, a_service) ∷ (fields.File, a_file) ∷ [];
+  asked = λ service file. asks (commands.Ask (queries.Mappings service file));
+}

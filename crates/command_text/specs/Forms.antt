@@ -1,8 +1,10 @@
 -- How the fields of a request are read, form by form, and the tests that come after all of them.
-use Rattle.std.specs.Prelude.{◌≡◌, ℕ, Bool, ◌^◌, ◌==◌, ◌⊎◌, ◌&&◌, List, [], ◌∷◌, length, nat_lt, nat_le, if◌then◌else◌, Option, Some, None, option_map, option_and_then, Result, Ok, Err, MatchResult}
+use Rattle.std.specs.Prelude.{◌≡◌, ℕ, Bool, ◌^◌, ◌==◌, ◌⊎◌, ◌&&◌, List, [], ◌∷◌, codes, length, nat_lt, nat_le, if◌then◌else◌, Option, Some, None, option_map, option_and_then, Result, Ok, Err, MatchResult}
 use Rattle.std.specs.Int.{w64, from_be_bytes}
 use Rattle.std.specs.Option.{is_none, ok_or}
 use Rattle.std.specs.Result.{result_ok}
+use Rattle.std.specs.Set.{distinct_count}
+use Rattle.std.specs.Str.{bytes_eq}
 use Rattle.hex.specs.Hex.{decode_sized}
 use Rattle.serde_json.specs.Data.{Data, Items, no_items, item}
 use Rattle.serde_json.specs.Find.{get, as_str, as_number, as_u64, as_array}
@@ -12,6 +14,11 @@ use Rattle.media_types.specs.declared.hash.Hash64.{Hash64}
 use Rattle.media_types.specs.declared.hash.Sha.{Sha}
 use Rattle.media_types.specs.declared.limits.TheConstants.{MAX_BATCH, MAX_DISTANCE, MAX_HASHES}
 use Rattle.media_types.specs.declared.numbers.FileNo.{FileNo}
+use Rattle.media_types.specs.declared.numbers.ServiceNo.{ServiceNo}
+use Rattle.tag_types.specs.Cleaning as tags
+use Rattle.tag_types.specs.declared.limits.TheConstants.{MAX_SERVICES}
+use Rattle.tag_types.specs.declared.map_state.MapState.{MapState}
+use Rattle.tag_types.specs.declared.map_state.MapState.TheVariants as states
 use Rattle.media_base.specs.declared.command.Command.{Command}
 use Rattle.media_base.specs.declared.refusal.FieldName.{FieldName}
 use Rattle.media_base.specs.declared.refusal.Refusal.{Refusal}
@@ -73,12 +80,31 @@ abbrev pub texts_if_any : Option Data → Option (List (List ℕ))
 texts_if_any None = Some []
 texts_if_any (Some value) = option_and_then texts_of (as_array value)
 
--- a whole number below 2 ^ 32
+-- a whole number below the limit
+abbrev pub number_in : ℕ → Data → Option ℕ
+number_in limit value = option_and_then (below limit) (option_and_then as_u64 (as_number value))
+
 abbrev pub file_in : Data → Option FileNo
-file_in value = option_map (λ n. record { 0 = n }) (option_and_then (below (2 ^ 32)) (option_and_then as_u64 (as_number value)))
+file_in value = option_map (λ n. record { 0 = n }) (number_in (2 ^ 32) value)
 
 abbrev pub files_of : Items → Option (List FileNo)
 files_of items = each_of file_in items
+
+abbrev pub service_in : Data → Option ServiceNo
+service_in value = option_map (λ n. record { 0 = n }) (number_in (2 ^ 8) value)
+
+abbrev pub is_same_service : ServiceNo → ServiceNo → Bool
+is_same_service a b = a.0 == b.0
+
+-- no more services than a library has, and none twice
+abbrev pub is_order : List ServiceNo → Bool
+is_order services = nat_le (length services) MAX_SERVICES && (distinct_count is_same_service services == length services)
+
+abbrev pub as_order : List ServiceNo → Option (List ServiceNo)
+as_order services = if is_order services then Some services else None
+
+abbrev pub order_of : Items → Option (List ServiceNo)
+order_of items = option_and_then as_order (each_of service_in items)
 
 -- what the number of a code asks: 1 not related, 2 same quality, 3 alternates, 4 better, 7 worse
 abbrev pub asked_code : ℕ → Option AskedCode
@@ -88,6 +114,14 @@ asked_code number =
     else if number == 3 then Some (asked_codes.As codes_of.Alternates)
     else if number == 4 then Some (asked_codes.As codes_of.Better)
     else if number == 7 then Some asked_codes.Worse
+    else None
+
+-- the state of a mapping that has this name
+abbrev pub state_of : List ℕ → Option MapState
+state_of text =
+    if bytes_eq text (codes "current") then Some states.Current
+    else if bytes_eq text (codes "pending") then Some states.Pending
+    else if bytes_eq text (codes "deleted") then Some states.Deleted
     else None
 
 -- ---- what is made of it
@@ -126,6 +160,10 @@ place_of (Some j) (Some k) = Some (j, k)
 place_of (Some j) None = None
 place_of None k = None
 
+-- the cleaned tag of a text
+unfoldable pub tag_of : List ℕ → Result (List ℕ) Refusal
+tag_of text = ok_or (tags.tag_of text) refusals.BadTag
+
 -- a distance within which files are searched
 unfoldable pub distance_of : ℕ → Result ℕ Refusal
 distance_of n = if nat_le n MAX_DISTANCE then Ok n else Err refusals.BadDistance
@@ -156,6 +194,12 @@ pub data Form : Type 0 where
   some_files : Form
   -- the number of a decision's code
   a_code : Form
+  -- a service's number
+  a_service : Form
+  -- a list of services' numbers, at most 8 and none twice
+  an_order : Form
+  -- the name of a mapping's state
+  a_state : Form
   -- a file's number; both this field and the other may be missing, and not one alone
   a_file_beside : (other : FieldName) → Form
 
@@ -167,6 +211,9 @@ Said a_file = FileNo
 Said texts_or_none = List (List ℕ)
 Said some_files = List FileNo
 Said a_code = AskedCode
+Said a_service = ServiceNo
+Said an_order = List ServiceNo
+Said a_state = MapState
 Said (a_file_beside other) = Option FileNo
 
 -- a field, and its form
@@ -185,6 +232,9 @@ says a_file name value = option_and_then file_in (field_of name value)
 says texts_or_none name value = texts_if_any (field_of name value)
 says some_files name value = option_and_then files_of (list_of name value)
 says a_code name value = option_and_then asked_code (number_of name value)
+says a_service name value = option_and_then service_in (field_of name value)
+says an_order name value = option_and_then order_of (list_of name value)
+says a_state name value = option_and_then state_of (text_of name value)
 says (a_file_beside other) name value = if lacks_both name other value then Some None else option_map (λ file. Some file) (option_and_then file_in (field_of name value))
 
 unfoldable pub said_at : (name : FieldName) (form : Form) → Data → Result (Said form) Refusal
@@ -200,6 +250,8 @@ pub data Test : Type 0 where
   are_words : (texts : List (List ℕ)) → Test
   -- there are no more hashes than a file has
   are_few : (words : List Hash64) → Test
+  -- the text says a tag
+  is_tag : (text : List ℕ) → Test
   -- files are searched within this distance
   is_near : (distance : ℕ) → Test
   -- so many things are done at once
@@ -212,6 +264,7 @@ abbrev pub Made : Test → Type 0
 Made (is_sha text) = Sha
 Made (are_words texts) = List Hash64
 Made (are_few words) = List Hash64
+Made (is_tag text) = List ℕ
 Made (is_near distance) = ℕ
 Made (is_batch n) = ℕ
 Made (is_file_batch files) = List FileNo
@@ -220,6 +273,7 @@ abbrev pub test_of : (test : Test) → Result (Made test) Refusal
 test_of (is_sha text) = sha_of text
 test_of (are_words texts) = words_of texts
 test_of (are_few words) = few_hashes words
+test_of (is_tag text) = tag_of text
 test_of (is_near distance) = distance_of distance
 test_of (is_batch n) = batch_of n
 test_of (is_file_batch files) = files_batch files
@@ -229,6 +283,7 @@ abbrev pub refusal_of : Test → Refusal
 refusal_of (is_sha text) = refusals.BadHash
 refusal_of (are_words texts) = refusals.BadHash
 refusal_of (are_few words) = refusals.TooManyHashes
+refusal_of (is_tag text) = refusals.BadTag
 refusal_of (is_near distance) = refusals.BadDistance
 refusal_of (is_batch n) = refusals.BadNumber
 refusal_of (is_file_batch files) = refusals.BadNumber

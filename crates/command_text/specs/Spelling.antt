@@ -1,5 +1,5 @@
 -- What it is for a line to spell a command, or to have a fault, in plain facts about the line.
-use Rattle.std.specs.Prelude.{◌≡◌, ℕ, ◌+◌, ◌*◌, ◌^◌, ◌<◌, ◌≤◌, ◌⊎◌, List, [], ◌∷◌, length, map, fold, unwrap_or, Option, Some, None, Ok, IsTrue, All, Any}
+use Rattle.std.specs.Prelude.{◌≡◌, ℕ, ◌+◌, ◌*◌, ◌^◌, ◌<◌, ◌≤◌, ◌⊎◌, List, [], ◌∷◌, codes, length, map, fold, unwrap_or, Option, Some, None, Ok, IsTrue, All, Any}
 use Rattle.std.specs.List.{AllPass, AllZip}
 use Rattle.std.specs.Str.{IsUtf8}
 use Rattle.hex.specs.Hex.{hex_digit_value, is_hex_digit, decode_of}
@@ -13,6 +13,12 @@ use Rattle.media_types.specs.declared.hash.Hash64.{Hash64}
 use Rattle.media_types.specs.declared.hash.Sha.{Sha}
 use Rattle.media_types.specs.declared.limits.TheConstants.{MAX_DISTANCE, MAX_HASHES}
 use Rattle.media_types.specs.declared.numbers.FileNo.{FileNo}
+use Rattle.media_types.specs.declared.numbers.ServiceNo.{ServiceNo}
+use Rattle.tag_types.specs.Cleaning as tags
+use Rattle.tag_types.specs.ServiceLists.{AreDistinct}
+use Rattle.tag_types.specs.declared.limits.TheConstants.{MAX_SERVICES}
+use Rattle.tag_types.specs.declared.map_state.MapState.{MapState}
+use Rattle.tag_types.specs.declared.map_state.MapState.TheVariants as states
 use Rattle.media_base.specs.declared.command.Command.{Command}
 use Rattle.media_base.specs.declared.refusal.FieldName.{FieldName}
 use Rattle.media_base.specs.declared.refusal.FieldName.TheVariants as fields
@@ -22,7 +28,7 @@ use Rattle.command_text.specs.declared.asked_code.AskedCode.{AskedCode}
 use Rattle.command_text.specs.declared.asked_code.AskedCode.TheVariants as asked_codes
 use Rattle.command_text.specs.declared.request.TheConstants.{MAX_LINE}
 use Rattle.command_text.specs.Commands.{CommandName, request_of}
-use Rattle.command_text.specs.Forms.{Form, a_text, a_number, a_file, texts_or_none, some_files, a_code, a_file_beside, Said, Field, Test, is_sha, are_words, are_few, is_near, is_batch, is_file_batch, Made, refusal_of, Asking, asks, tests, Asked}
+use Rattle.command_text.specs.Forms.{Form, a_text, a_number, a_file, texts_or_none, some_files, a_code, a_service, an_order, a_state, a_file_beside, Said, Field, Test, is_sha, are_words, are_few, is_tag, is_near, is_batch, is_file_batch, Made, refusal_of, Asking, asks, tests, Asked}
 
 -- ---- a line
 
@@ -73,6 +79,13 @@ pub record HasFiles (value : Data) (name : FieldName) (files : List FileNo) : Ty
   pub is : HasField value name (array (items_of (map (λ file. number (unsigned file.0)) files)))
   pub fit : All (λ file. file.0 < 2 ^ 32) files
 
+-- The field is the list of these services' numbers, which are below 2 ^ 8: at most 8, and none twice.
+pub record HasOrder (value : Data) (name : FieldName) (services : List ServiceNo) : Type 0 where
+  pub is : HasField value name (array (items_of (map (λ service. number (unsigned service.0)) services)))
+  pub fit : All (λ service. service.0 < 2 ^ 8) services
+  pub few : length services ≤ MAX_SERVICES
+  pub distinct : AreDistinct services
+
 -- ---- hexadecimal digits
 
 -- The text is so many hexadecimal digits, of either case.
@@ -104,6 +117,12 @@ code_number (asked_codes.As codes_of.Alternates) = 3
 code_number (asked_codes.As codes_of.Better) = 4
 code_number asked_codes.Worse = 7
 
+-- the name of a mapping's state
+abbrev pub state_text : MapState → List ℕ
+state_text states.Current = codes "current"
+state_text states.Pending = codes "pending"
+state_text states.Deleted = codes "deleted"
+
 -- The field is this file's number; where it is none, this field and the other are missing.
 abbrev pub HasFileBeside : Data → FieldName → FieldName → Option FileNo → Type 0
 HasFileBeside value name other None = HasNoField value name × HasNoField value other
@@ -117,6 +136,9 @@ Has value name a_file file = HasNumber value name (2 ^ 32) file.0
 Has value name texts_or_none texts = HasTexts value name texts ⊎ (HasNoField value name × (texts ≡ []))
 Has value name some_files files = HasFiles value name files
 Has value name a_code asked = HasField value name (number (unsigned (code_number asked)))
+Has value name a_service service = HasNumber value name (2 ^ 8) service.0
+Has value name an_order services = HasOrder value name services
+Has value name a_state state = HasText value name (state_text state)
 Has value name (a_file_beside other) file = HasFileBeside value name other file
 
 -- what fields of these forms say
@@ -141,6 +163,7 @@ abbrev pub IsGood : (test : Test) → Made test → Type 0
 IsGood (is_sha text) sha = IsShaText text sha
 IsGood (are_words texts) words = AllZip IsWordText texts words
 IsGood (are_few words) hashes = (hashes ≡ words) × (length words ≤ MAX_HASHES)
+IsGood (is_tag text) tag = tags.tag_of text ≡ Some tag
 IsGood (is_near n) distance = (distance ≡ n) × (n ≤ MAX_DISTANCE)
 IsGood (is_batch n) size = (size ≡ n) × IsBatch n
 IsGood (is_file_batch files) batch = (batch ≡ files) × IsBatch (length files)
@@ -150,6 +173,7 @@ abbrev pub IsBad : Test → Type 0
 IsBad (is_sha text) = ¬ (IsDigits 64 text)
 IsBad (are_words texts) = Any (λ text. ¬ (IsDigits 16 text)) texts
 IsBad (are_few words) = MAX_HASHES < length words
+IsBad (is_tag text) = tags.tag_of text ≡ None
 IsBad (is_near n) = MAX_DISTANCE < n
 IsBad (is_batch n) = ¬ (IsBatch n)
 IsBad (is_file_batch files) = ¬ (IsBatch (length files))

@@ -4,9 +4,11 @@ ghost use Rattle.std.specs.Prelude.{◌≡◌, ◌^◌, map, option_map};
 ghost use Rattle.std.specs.Option.{is_none};
 ghost use Rattle.serde_json.specs.Find.{as_array};
 ghost use Rattle.serde_json.specs.View.{view, items_view};
-ghost use Rattle.command_text.specs.Forms.{Gives, GivesAs, field_of, number_of, list_of, texts_of, files_of, file_in, formed, said_at, a_text, a_number, a_file, texts_or_none, some_files, a_file_beside};
+ghost use Rattle.command_text.specs.Forms.{Gives, GivesAs, field_of, number_of, list_of, texts_of, files_of, file_in, service_in, order_of, state_of, formed, said_at, a_text, a_number, a_file, texts_or_none, some_files, a_service, an_order, a_state, a_file_beside};
 
-use media_base::{FieldName, FileList, FileNo, Listed, Refusal};
+use media_base::{
+    FieldName, FileList, FileNo, Listed, MAX_SERVICES, MapState, Refusal, ServiceList, ServiceNo,
+};
 use serde_json::Value;
 use std::alloc::Global;
 
@@ -141,6 +143,73 @@ fn file_in(value: &Value) -> Option<FileNo>
 {
     match value.as_u64() {
         Some(number) if number <= u64::from(u32::MAX) => Some(FileNo(number as u32)),
+        _ => None,
+    }
+}
+
+/// A service's number.
+#[tactic(auto, unfolding(crate::specs::Forms::said_at))]
+pub fn service(request: &Value, name: FieldName) -> Result<ServiceNo, Refusal>
+    ensures { Gives result (said_at name a_service (view request.now)) }
+{
+    request
+        .get(name.text())
+        .and_then(service_in)
+        .ok_or(Refusal::NotARequest(name))
+}
+
+fn service_in(value: &Value) -> Option<ServiceNo>
+    ensures { result ≡ service_in (view value.now) }
+{
+    match value.as_u64() {
+        Some(number) if number <= u64::from(u8::MAX) => Some(ServiceNo(number as u8)),
+        _ => None,
+    }
+}
+
+/// The services of a list of their numbers. It takes no memory.
+#[tactic(auto, unfolding(crate::specs::Forms::said_at))]
+pub fn order(request: &Value, name: FieldName) -> Result<ServiceList, Refusal>
+    ensures { result ≡ said_at name an_order (view request.now) }
+{
+    list(request, name)
+        .and_then(order_in)
+        .ok_or(Refusal::NotARequest(name))
+}
+
+fn order_in(items: &[Value]) -> Option<ServiceList>
+    ensures { result ≡ order_of (items_view items.now) }
+{
+    let mut services = ServiceList::new();
+    for item in items {
+        let service = service_in(item)?;
+        if services.len() == MAX_SERVICES || services.contains(service) {
+            return None;
+        }
+        services.push(service);
+    }
+    Some(services)
+}
+
+/// The state of a mapping.
+#[tactic(auto, unfolding(crate::specs::Forms::said_at))]
+pub fn state(request: &Value, name: FieldName) -> Result<MapState, Refusal>
+    ensures { Gives result (said_at name a_state (view request.now)) }
+{
+    request
+        .get(name.text())
+        .and_then(Value::as_str)
+        .and_then(state_of)
+        .ok_or(Refusal::NotARequest(name))
+}
+
+fn state_of(text: &str) -> Option<MapState>
+    ensures { result ≡ state_of text.now }
+{
+    match text {
+        "current" => Some(MapState::Current),
+        "pending" => Some(MapState::Pending),
+        "deleted" => Some(MapState::Deleted),
         _ => None,
     }
 }

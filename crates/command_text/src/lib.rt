@@ -12,6 +12,7 @@ mod laws;
 mod pairs;
 mod request;
 mod searches;
+mod tags;
 
 pub use laws::{long_line_laws, refusal_laws, spelling_laws, worked_readings};
 pub use request::{MAX_LINE, read_line};

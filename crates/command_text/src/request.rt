@@ -9,6 +9,7 @@ use crate::fields::{file, small_number, text};
 use crate::import::import_of;
 use crate::pairs::{pair_count_of, pairs_of};
 use crate::searches::{search_distance_of, search_files_of, search_job_of};
+use crate::tags::tag_command;
 use media_base::{Change, Command, DecisionNo, FieldName, Query, Refusal, Upkeep};
 use serde_json::Value;
 use std::alloc::Global;
@@ -27,6 +28,7 @@ pub const MAX_LINE: usize = 65_536;
 ///   `hashes` may be missing, and so may `after_j` and `after_k`, but not one of the two alone.
 /// - `BadHash`: the `sha256` of an import isn't 64 hexadecimal digits, or one of its `hashes` isn't 16.
 /// - `TooManyHashes`: an import has more than `MAX_HASHES` of them.
+/// - `BadTag`: a `tag`, once it is cleaned, is empty or has more than `MAX_TAG_BYTES` bytes.
 /// - `BadDistance`: a `distance` or `at_most` is over `MAX_DISTANCE`.
 /// - `BadNumber`: an `n` is 0 or over `MAX_BATCH`, or `files` are none or more than so many.
 ///
@@ -96,6 +98,6 @@ fn search_command(alloc: Global, name: &str, request: &Value) -> Result<Command,
         "search_files" => search_files_of(alloc, request),
         "queues" => Ok(Command::Ask(Query::Queues)),
         "rebalance_job" => Ok(Command::Tend(Upkeep::Rebalance)),
-        _ => Err(Refusal::NotARequest(FieldName::Do)),
+        _ => tag_command(alloc, name, request),
     }
 }

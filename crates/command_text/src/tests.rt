@@ -3,6 +3,7 @@ mod files;
 mod imports;
 mod pairs;
 mod searches;
+mod tags;
 
 use super::*;
 use media_base::{Command, FieldName, Refusal};

@@ -51,7 +51,7 @@ pub data Part : Type 0 where
   -- yes or no
   a_flag : Bool → Part
   a_text : List ℕ → Part
-  texts : List (List ℕ) → Part
+  tags : List (List ℕ) → Part
   files : List FileNo → Part
   pairs : List Pair → Part
 
@@ -65,7 +65,7 @@ abbrev pub part_text : Part → List ℕ
 part_text (a_number n) = decimal n
 part_text (a_flag b) = if b then codes "true" else codes "false"
 part_text (a_text text) = quoted text
-part_text (texts listed) = list_text quoted listed
+part_text (tags listed) = list_text quoted listed
 part_text (files listed) = list_text file_text listed
 part_text (pairs listed) = list_text pair_text listed
 

@@ -5,7 +5,7 @@ use Rattle.media_base.specs.declared.reply.Answer.TheVariants as answers
 use Rattle.media_base.specs.declared.refusal.FieldName.{FieldName}
 use Rattle.media_base.specs.Names as names
 use Rattle.media_base.specs.Replying.{Reply}
-use Rattle.reply_text.specs.Parts.{a_number, a_flag, a_text, files, pairs, Field, object_text}
+use Rattle.reply_text.specs.Parts.{a_number, a_flag, a_text, tags, files, pairs, Field, object_text}
 
 -- the field that a refusal blames
 abbrev pub blamed : Option FieldName → List Field
@@ -29,6 +29,9 @@ answer_row (answers.Distance distance) = (codes "distance", a_number distance) �
 answer_row (answers.Searched counts) = (codes "searched", a_number counts.searched) ∷ (codes "left", a_number counts.left) ∷ []
 answer_row (answers.Queues queues) = (codes "search", a_number queues.search) ∷ (codes "display", a_number queues.display) ∷ []
 answer_row answers.Rebalanced = (codes "done", a_flag true) ∷ []
+answer_row (answers.Service service) = (codes "service", a_number service.0) ∷ []
+answer_row (answers.Mapped mapped) = (codes "tag", a_number mapped.tag.0) ∷ (codes "changed", a_flag mapped.changed) ∷ []
+answer_row (answers.Mappings found) = (codes "current", tags found.current) ∷ (codes "pending", tags found.pending) ∷ (codes "deleted", tags found.deleted) ∷ []
 
 abbrev pub reply_row : Reply → List Field
 reply_row (Ok answer) = answer_row answer

@@ -6,7 +6,7 @@ ghost use Rattle.reply_text.specs.Parts.{joined_text, enclosed_text, list_text, 
 
 use crate::out::Out;
 use itoa::Buffer;
-use media_base::{Failed, FileNo};
+use media_base::{Failed, FileNo, TagText};
 
 /// What has a text of its own.
 pub trait Spelled {
@@ -123,13 +123,21 @@ impl Spelled for &str {
     }
 }
 
+impl Spelled for TagText {
+    ghost text = { quoted };
+
+    fn put_in<W, O: Out<W>>(&self, out: &mut O, sink: &mut W) -> Result<(), Failed> {
+        self.as_str().put_in(out, sink)
+    }
+}
+
 /// What stands behind a field's name.
 #[derive(Clone, Copy)]
 pub enum Part<'a> {
     Number(u64),
     Flag(bool),
     Text(&'a str),
-    Texts(&'a [&'a str]),
+    Tags(&'a [TagText]),
     Files(&'a [FileNo]),
     Pairs(&'a [Pair]),
 }
@@ -145,7 +153,7 @@ impl Spelled for Part<'_> {
             Part::Flag(true) => out.put(b"true", sink),
             Part::Flag(false) => out.put(b"false", sink),
             Part::Text(text) => text.put_in(out, sink),
-            Part::Texts(texts) => put_list(texts, out, sink),
+            Part::Tags(tags) => put_list(tags, out, sink),
             Part::Files(files) => put_list(files, out, sink),
             Part::Pairs(pairs) => put_list(pairs, out, sink),
         }

@@ -2,9 +2,9 @@ use crate::out::Count;
 use crate::part::{Field, Part, put_object};
 use crate::{reply_len, write_reply, write_reply_line};
 use media_base::{
-    Answer, BytesSink, CallList, Code, Decision, DecisionNo, FieldName, FileList, FileNo,
-    FileRelations, Gather, ImportStatus, Imported, PairList, QueueLengths, Refusal, Reply,
-    SearchCounts, SearchDistance, Unmet,
+    Answer, BytesSink, CallList, Code, Decision, DecisionNo, FieldName, FileList, FileMappings,
+    FileNo, FileRelations, Gather, ImportStatus, Imported, Mapped, PairList, QueueLengths, Refusal,
+    Reply, SearchCounts, SearchDistance, ServiceNo, TagNo, TagTextList, Unmet, clean,
 };
 use std::alloc::Global;
 use std::process::Abort;
@@ -218,6 +218,7 @@ fn refusals_are_written(rt: HostRuntime) -> Result<(), Fail> {
         ),
         (Refusal::BadHash, "{\"error\":\"bad_hash\"}"),
         (Refusal::TooManyHashes, "{\"error\":\"too_many_hashes\"}"),
+        (Refusal::BadTag, "{\"error\":\"bad_tag\"}"),
         (Refusal::BadDistance, "{\"error\":\"bad_distance\"}"),
         (Refusal::BadNumber, "{\"error\":\"bad_number\"}"),
         (
@@ -241,6 +242,23 @@ fn refusals_are_written(rt: HostRuntime) -> Result<(), Fail> {
         (
             Refusal::Unmet(Unmet::FullDecisions),
             "{\"error\":\"full_decisions\"}",
+        ),
+        (
+            Refusal::Unmet(Unmet::UnknownService),
+            "{\"error\":\"unknown_service\"}",
+        ),
+        (
+            Refusal::Unmet(Unmet::UnknownTag),
+            "{\"error\":\"unknown_tag\"}",
+        ),
+        (Refusal::Unmet(Unmet::FullTags), "{\"error\":\"full_tags\"}"),
+        (
+            Refusal::Unmet(Unmet::FullMappings),
+            "{\"error\":\"full_mappings\"}",
+        ),
+        (
+            Refusal::Unmet(Unmet::FullServices),
+            "{\"error\":\"full_services\"}",
         ),
         (Refusal::NoMemory, "{\"error\":\"no_memory\"}"),
         (Refusal::JournalFull, "{\"error\":\"journal_full\"}"),
@@ -332,15 +350,50 @@ fn texts_are_escaped(rt: HostRuntime) -> Result<(), Fail> {
 }
 
 #[test]
-fn lists_of_texts_are_written(rt: HostRuntime) -> Result<(), Fail> {
-    let alloc = rt.alloc();
-    let none = [("texts", Part::Texts(&[]))];
-    assert_object(&rt, alloc, &none, "{\"texts\":[]}")?;
-    let some = [
-        ("texts", Part::Texts(&["a", "", "\"b"])),
-        ("n", Part::Number(0)),
+fn no_fields_are_written(rt: HostRuntime) -> Result<(), Fail> {
+    assert_object(&rt, rt.alloc(), &[], "{}")
+}
+
+fn tags(alloc: Global, texts: &[&str]) -> Result<TagTextList, Fail> {
+    let mut tags = TagTextList::new(alloc);
+    for text in texts {
+        tags.push(clean(alloc, text)?)?;
+    }
+    Ok(tags)
+}
+
+#[test]
+fn tags_are_answered(rt: HostRuntime) -> Result<(), Fail> {
+    let mapped = |tag, changed| {
+        let tag = TagNo(tag);
+        Ok(Answer::Mapped(Mapped { tag, changed }))
+    };
+    let cases = [
+        (Ok(Answer::Service(ServiceNo(0))), "{\"service\":0}"),
+        (Ok(Answer::Service(ServiceNo(255))), "{\"service\":255}"),
+        (mapped(0, true), "{\"tag\":0,\"changed\":true}"),
+        (mapped(999_999, false), "{\"tag\":999999,\"changed\":false}"),
     ];
-    let want = "{\"texts\":[\"a\",\"\",\"\\\"b\"],\"n\":0}";
-    assert_object(&rt, alloc, &some, want)?;
-    assert_object(&rt, alloc, &[], "{}")
+    assert_texts(&rt, rt.alloc(), &cases)
+}
+
+// The texts in quotes are those that Python's json writes.
+#[test]
+fn mappings_are_answered(rt: HostRuntime) -> Result<(), Fail> {
+    let alloc = rt.alloc();
+    let none = FileMappings {
+        current: TagTextList::new(alloc),
+        pending: TagTextList::new(alloc),
+        deleted: TagTextList::new(alloc),
+    };
+    let want = "{\"current\":[],\"pending\":[],\"deleted\":[]}";
+    assert_text(&rt, alloc, &Ok(Answer::Mappings(none)), want)?;
+    let some = FileMappings {
+        current: tags(alloc, &["a", "\"b\\", "c d"])?,
+        pending: tags(alloc, &["\u{1}\u{1f}\u{7f}"])?,
+        deleted: tags(alloc, &["é𝄞", "creator:e/f"])?,
+    };
+    let want =
+        "{\"current\":[\"a\",\"\\\"b\\\\\",\"c d\"],\"pending\":[\"\\u0001\\u001f\u{7f}\"],\"deleted\":[\"é𝄞\",\"creator:e/f\"]}";
+    assert_text(&rt, alloc, &Ok(Answer::Mappings(some)), want)
 }

@@ -86,6 +86,16 @@ fn put_reply<W, O: Out<W>>(reply: &Reply, out: &mut O, sink: &mut W) -> Result<(
             ("display", Part::Number(queues.display)),
         ]),
         Ok(Answer::Rebalanced) => put(&[("done", Part::Flag(true))]),
+        Ok(Answer::Service(service)) => put(&[("service", Part::Number(u64::from(service.0)))]),
+        Ok(Answer::Mapped(mapped)) => put(&[
+            ("tag", Part::Number(u64::from(mapped.tag.0))),
+            ("changed", Part::Flag(mapped.changed)),
+        ]),
+        Ok(Answer::Mappings(found)) => put(&[
+            ("current", Part::Tags(found.current.as_slice())),
+            ("pending", Part::Tags(found.pending.as_slice())),
+            ("deleted", Part::Tags(found.deleted.as_slice())),
+        ]),
         Err(refusal) => match refusal.field() {
             None => put(&[("error", Part::Text(refusal.text()))]),
             Some(field) => put(&[
