@@ -7,10 +7,13 @@ mod lines;
 mod near_files;
 mod plain_fold;
 mod plain_library;
+mod plain_tags;
 mod playing;
 mod random_session;
+mod random_tags;
 mod rows;
 mod scripts;
+mod tagging;
 mod undoing;
 
 use super::*;

@@ -33,6 +33,27 @@ impl Code {
     }
 }
 
+/// How a tag is mapped to a file.
+#[derive(Clone, Copy, Debug, PartialEq, Eq)]
+pub enum State {
+    Current,
+    Pending,
+    Deleted,
+}
+
+impl State {
+    pub const ALL: [State; 3] = [State::Current, State::Pending, State::Deleted];
+
+    /// Its name in a line.
+    fn name(self) -> &'static str {
+        match self {
+            State::Current => "current",
+            State::Pending => "pending",
+            State::Deleted => "deleted",
+        }
+    }
+}
+
 /// A line of a session, with its line feed but for `Text`.
 #[derive(Clone, Copy)]
 pub enum Line {
@@ -58,6 +79,13 @@ pub enum Line {
     Search(u32, u8),
     /// The search of two files within a distance.
     SearchBoth(u32, u32, u8),
+    /// A service takes its sibling pairs and its parent pairs from these services.
+    Apply(u32, &'static [u32], &'static [u32]),
+    /// The mapping of a tag in a service to a file. The tag stands as JSON spells it.
+    Map(u32, &'static str, u32, State),
+    Unmap(u32, &'static str, u32),
+    /// The tags that a service maps to a file.
+    Mappings(u32, u32),
     /// So many spaces.
     Spaces(usize),
     Text(&'static str),
@@ -67,6 +95,8 @@ impl Line {
     pub const QUEUES: Line = Line::Text("{\"do\":\"queues\"}\n");
 
     pub const REBALANCE_JOB: Line = Line::Text("{\"do\":\"rebalance_job\"}\n");
+
+    pub const ADD_SERVICE: Line = Line::Text("{\"do\":\"add_service\"}\n");
 
     pub fn write_to(&self, input: &mut String) -> Result<(), AllocError> {
         match self {
@@ -96,6 +126,20 @@ impl Line {
             Line::Search(file, distance) => write_search(input, &[*file], *distance),
             Line::SearchBoth(one, other, distance) => {
                 write_search(input, &[*one, *other], *distance)
+            }
+            Line::Apply(service, siblings, parents) => {
+                writeln!(
+                    input,
+                    "{{\"do\":\"apply\",\"service\":{service},\"siblings\":{siblings:?},\"parents\":{parents:?}}}"
+                )
+            }
+            Line::Map(service, tag, file, state) => write_map(input, *service, tag, *file, *state),
+            Line::Unmap(service, tag, file) => write_unmap(input, *service, tag, *file),
+            Line::Mappings(service, file) => {
+                writeln!(
+                    input,
+                    "{{\"do\":\"mappings\",\"service\":{service},\"file\":{file}}}"
+                )
             }
             Line::Spaces(count) => {
                 push_spaces(input, *count)?;
@@ -141,6 +185,34 @@ fn write_search(input: &mut String, files: &[u32], distance: u8) -> Result<(), A
     writeln!(
         input,
         "{{\"do\":\"search_files\",\"files\":{files:?},\"distance\":{distance}}}"
+    )
+}
+
+/// The line of `Map`, for a tag that isn't known beforehand.
+pub fn write_map(
+    input: &mut String,
+    service: u32,
+    tag: &str,
+    file: u32,
+    state: State,
+) -> Result<(), AllocError> {
+    let state = state.name();
+    writeln!(
+        input,
+        "{{\"do\":\"map\",\"service\":{service},\"tag\":\"{tag}\",\"file\":{file},\"state\":\"{state}\"}}"
+    )
+}
+
+/// The line of `Unmap`, for a tag that isn't known beforehand.
+pub fn write_unmap(
+    input: &mut String,
+    service: u32,
+    tag: &str,
+    file: u32,
+) -> Result<(), AllocError> {
+    writeln!(
+        input,
+        "{{\"do\":\"unmap\",\"service\":{service},\"tag\":\"{tag}\",\"file\":{file}}}"
     )
 }
 

@@ -13,10 +13,11 @@ use std::test::Fail;
 use std::thread::Threads;
 
 #[derive(Clone, Copy)]
-struct Case {
-    shows: &'static str,
-    files: u32,
-    rows: &'static [(Line, &'static str)],
+pub(super) struct Case {
+    pub(super) shows: &'static str,
+    /// How many files are there at first.
+    pub(super) files: u32,
+    pub(super) rows: &'static [(Line, &'static str)],
 }
 
 const DECISION_0: &str = r#"{"decision":0}"#;
@@ -25,11 +26,11 @@ const DECISION_1: &str = r#"{"decision":1}"#;
 
 const DECISION_2: &str = r#"{"decision":2}"#;
 
-const CHANGED: &str = r#"{"changed":true}"#;
+pub(super) const CHANGED: &str = r#"{"changed":true}"#;
 
-const UNCHANGED: &str = r#"{"changed":false}"#;
+pub(super) const UNCHANGED: &str = r#"{"changed":false}"#;
 
-const UNKNOWN_FILE: &str = r#"{"error":"unknown_file"}"#;
+pub(super) const UNKNOWN_FILE: &str = r#"{"error":"unknown_file"}"#;
 
 const DUPLICATES: [Case; 5] = [
     Case {
@@ -530,7 +531,11 @@ fn assert_case(rt: &(impl Threads + Abort), alloc: Global, case: &Case) -> Resul
     Ok(())
 }
 
-fn assert_all(rt: &(impl Threads + Abort), alloc: Global, cases: &[Case]) -> Result<(), Fail> {
+pub(super) fn assert_all(
+    rt: &(impl Threads + Abort),
+    alloc: Global,
+    cases: &[Case],
+) -> Result<(), Fail> {
     for case in cases {
         assert_case(rt, alloc, case)?;
     }

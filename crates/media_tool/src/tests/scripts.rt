@@ -49,6 +49,12 @@ impl Script {
         Ok(())
     }
 
+    /// The next line has this text and its line feed.
+    pub fn say_text(&mut self, line: &str, reply: &str) -> Result<(), AllocError> {
+        self.input.push_str(line)?;
+        writeln!(self.replies, "{reply}")
+    }
+
     /// The next line is a decision, which gets this number.
     pub fn decide(&mut self, line: Line, number: usize) -> Result<(), AllocError> {
         line.write_to(&mut self.input)?;
