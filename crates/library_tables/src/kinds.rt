@@ -5,7 +5,7 @@ ghost use Rattle.library_machine.specs.Asking as machine;
 ghost use Rattle.library_machine.specs.Jobs.{tended};
 ghost use Rattle.library_tables.specs.Counting.{IsWithin, change_reads, job_reads, query_reads};
 ghost use Rattle.library_tables.specs.Preparing.{IsPrepared, IsTended, IsWorkedOut};
-ghost use Rattle.library_tables.specs.Tables.{marked_tree, records_of};
+ghost use Rattle.library_tables.specs.Tables.{HasWords, marked_tree, records_of};
 
 use crate::plan::{Deed, Prepared};
 use crate::tables::Tables;
@@ -76,6 +76,7 @@ impl Tables {
         ensures records { records_of self.new ≡ records_of self.old }
         ensures tree { OnOk result (IsTended upkeep (marked_tree self.old) (marked_tree self.new)) }
         ensures err { OnErr result (marked_tree self.new ≡ marked_tree self.old) }
+        ensures words { HasWords self.new.tree.rows (records_of self.new) }
         ensures answer { IfOk result (λ answer. answer ≡ tended upkeep) }
     {
         match upkeep {

@@ -146,6 +146,7 @@ impl Tables {
         ensures records { records_of self.new ≡ records_of self.old }
         ensures rebalanced { OnOk result (IsRebalanced (marked_tree self.old) (marked_tree self.new)) }
         ensures err { OnErr result (marked_tree self.new ≡ marked_tree self.old) }
+        ensures words { HasWords self.new.tree.rows (records_of self.new) }
         ensures reads { steps.new ≤ steps.old + (1 + marked_size self.old.tree.rows self.old.work.marks) }
     {
         let plan = self.upkeep.plan_rebuild(&self.tree, steps)?;
