@@ -1,5 +1,5 @@
 -- How outcomes are answered and kept, by their kinds: once for all commands and keepers.
-use Rattle.std.proofs.Common.{◌≡◌, ◌≢◌, ◌⊎◌, List, ◌≤◌, ◌+◌, inl, inr, Bool, true, false, Option, None, IsSome, option_map, Result, Ok, Err, arith, refl, ap, subst, sym, ◌∙◌}
+use Rattle.std.proofs.Common.{◌≡◌, ◌≢◌, ◌⊎◌, ◌≤◌, ◌+◌, inl, inr, Bool, true, false, Option, None, IsSome, option_map, Result, Ok, Err, arith, refl, ap, subst, sym, ◌∙◌}
 use Rattle.media_types.specs.Cause.{Rose}
 use Rattle.media_base.specs.declared.change.Change.{Change}
 use Rattle.media_base.specs.declared.command.Caller.{Caller}
@@ -13,7 +13,7 @@ use Rattle.media_base.specs.declared.refusal.Unmet.{Unmet}
 use Rattle.media_base.specs.declared.reply.Answer.{Answer}
 use Rattle.media_base.specs.Keeping.{with_change}
 use Rattle.media_base.specs.Replying.{Reply}
-use Rattle.vp_tree.specs.declared.node.NodeView.{NodeView}
+use Rattle.vp_tree.specs.Marking.{MarkedTree}
 use Rattle.library_machine.specs.Changing.{does, effect, answer_to}
 use Rattle.library_machine.specs.Desks.{no_desks}
 use Rattle.library_machine.specs.Opening.{kept_with}
@@ -138,7 +138,7 @@ unkept_done t s old new c answer fault is = record {
 
 -- ---- a change, as the tables of a library prepared it
 
-abbrev pub seen : {K : Type 0} → Records → List NodeView → K → LibraryView K
+abbrev pub seen : {K : Type 0} → Records → MarkedTree → K → LibraryView K
 seen r tree keeper = record { state = record { kept = r; desks = no_desks }; tree = tree; keeper = keeper }
 
 abbrev IsMade : {K : Type 0} → Telling K → LibraryView K → Change → Reply → Records → K → Type 0
@@ -146,7 +146,7 @@ IsMade t l c reply new keeper =
     IsDone t l.state l.keeper (made l.state.kept l.state.desks c) reply (record { kept = new; desks = no_desks }) keeper
 
 -- the records of the tables are those before the plan, which contracts see of the library
-module _ {K : Type 0} (t : Telling K) (l : LibraryView K) (r before : Records) (tree : List NodeView) (old : K) (view : seen before tree old ≡ l) (same : r ≡ before) (c : Change) where
+module _ {K : Type 0} (t : Telling K) (l : LibraryView K) (r before : Records) (tree : MarkedTree) (old : K) (view : seen before tree old ≡ l) (same : r ≡ before) (c : Change) where
   at_view : (reply : Reply) (new : Records) (keeper : K) → IsMade t (seen r tree old) c reply new keeper → IsMade t l c reply new keeper
   at_view reply new keeper this =
       subst (λ (m : LibraryView K). IsMade t m c reply new keeper) view

@@ -8,4 +8,5 @@ pub use Rattle.library_machine.specs.Step
 pub use Rattle.file_records.specs.Words
 pub use Rattle.vp_tree.specs.Nodes
 pub use Rattle.vp_tree.specs.Building
+pub use Rattle.vp_tree.specs.Marking
 pub use Rattle.vp_tree.specs.Placing

@@ -7,7 +7,7 @@ ghost use Rattle.library_machine.specs.Step as machine;
 ghost use Rattle.library_tables.specs.Counting.{IsWithin, change_reads, most_reads};
 ghost use Rattle.library_tables.specs.Tables.{HasWords};
 ghost use Rattle.library_core.specs.Done.{IsDone};
-ghost use Rattle.library_core.specs.Keeping.{GrowsBy};
+ghost use Rattle.library_core.specs.Keeping.{Follows, GrowsBy};
 ghost use Rattle.library_core.specs.Faults.{put_refusal};
 
 use library_tables::{Deed, Prepared, Tables};
@@ -24,14 +24,14 @@ pub struct Library<K: Keeper> {
 
 impl<K: Keeper> Model for Library<K> {
     ghost use Rattle.library_machine.specs.Desks.{no_desks};
-    ghost use Rattle.library_tables.specs.Tables.{records_of};
+    ghost use Rattle.library_tables.specs.Tables.{marked_tree, records_of};
     ghost use Rattle.library_core.specs.Keeping.{LibraryView, IsInStep};
 
     ghost Value = { LibraryView K };
 
     ghost view = { λ l. record {
       state = record { kept = records_of l.tables; desks = no_desks };
-      tree = l.tables.tree.rows;
+      tree = marked_tree l.tables;
       keeper = l.keeper;
     } };
 
@@ -61,13 +61,14 @@ impl<K: Keeper> Library<K> {
         ensures opens { (readings : Readings) → K.kept self.new.keeper ≡ Some readings
             → opened readings ≡ Ok self.new.state.kept }
 
-        // An import that is accepted places its new words in the tree. All else leaves it.
-        ensures tree { GrowsBy self.old.state.kept
+        // An import that is accepted places its new words in the tree, and each marks the branch that it leaves
+        // lopsided. A rebalance builds the branch at the lowest mark anew. All else leaves the tree and its marks.
+        ensures tree { Follows self.old.state.kept command.now
             (machine.change_of (machine.step self.old.state caller command.now)) result self.old.tree self.new.tree }
-        ensures words { HasWords self.new.tree self.new.state.kept }
+        ensures words { HasWords self.new.tree.nodes self.new.state.kept }
 
         // Searches, pages of pairs and deletions read no more than this.
-        ensures reads { IsWithin (most_reads self.old.state.kept self.old.tree command.now) steps.old steps.new }
+        ensures reads { IsWithin (most_reads self.old.state.kept self.old.tree.nodes command.now) steps.old steps.new }
     {
         library_machine::refusals_change_nothing();
         let Caller::Console = caller;
@@ -81,9 +82,9 @@ impl<K: Keeper> Library<K> {
         ensures done { IsDone (record { kept = K.kept; alien = K.alien; faults = K.faults; used = K.used; units = K.units; limit = K.limit })
             self.old.state self.old.keeper (machine.step_of self.old.state command.now)
             result self.new.state self.new.keeper }
-        ensures tree { GrowsBy self.old.state.kept
+        ensures tree { Follows self.old.state.kept command.now
             (machine.change_of (machine.step_of self.old.state command.now)) result self.old.tree self.new.tree }
-        ensures reads { IsWithin (most_reads self.old.state.kept self.old.tree command.now) steps.old steps.new }
+        ensures reads { IsWithin (most_reads self.old.state.kept self.old.tree.nodes command.now) steps.old steps.new }
     {
         match command {
             Command::Ask(query) => Ok(self.tables.ask(query, steps)??),
@@ -104,7 +105,7 @@ impl<K: Keeper> Library<K> {
         ensures tree { GrowsBy self.old.state.kept
             (machine.change_of (machine.made self.old.state.kept self.old.state.desks change.now))
             result self.old.tree self.new.tree }
-        ensures reads { IsWithin (change_reads self.old.state.kept self.old.tree change.now) steps.old steps.new }
+        ensures reads { IsWithin (change_reads self.old.state.kept self.old.tree.nodes change.now) steps.old steps.new }
     {
         library_machine::records_stay_fit();
         match self.tables.plan(change, steps)? {
@@ -129,7 +130,7 @@ impl<K: Keeper> Library<K> {
         ensures fits { Fits self.now.state.kept }
         ensures opens { (readings : Readings) → K.kept self.now.keeper ≡ Some readings
             → opened readings ≡ Ok self.now.state.kept }
-        ensures words { HasWords self.now.tree self.now.state.kept }
+        ensures words { HasWords self.now.tree.nodes self.now.state.kept }
     {
         let _tables = &self.tables;
     }

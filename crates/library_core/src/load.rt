@@ -1,4 +1,4 @@
-ghost use Rattle.std.specs.Prelude.{◌≡◌, ◌≢◌, ◌≤◌, ℕ, true, false, length, Option, Some, None, Ok, Err, slice_get, option_map, IfOk, IfErr, OnOk};
+ghost use Rattle.std.specs.Prelude.{◌≡◌, ◌≢◌, ◌≤◌, ℕ, true, false, [], length, Option, Some, None, Ok, Err, slice_get, option_map, IfOk, IfErr, OnOk};
 ghost use Rattle.media_types.specs.Cause.{HasCause, Rose};
 ghost use Rattle.media_base.specs.Keeping.{Readings, HasMore, next_place};
 ghost use Rattle.media_base.specs.declared.change.Change.{Change as ChangeValue};
@@ -80,6 +80,7 @@ fn take_all<K: Keeper, L: Ledger>(
     ensures fits { OnOk result (Fits (records_of tables.new)) }
     ensures words { OnOk result (HasWords tables.new.tree.rows (records_of tables.new)) }
     ensures whole { OnOk result (IsBuiltWhole tables.new.tree.rows) }
+    ensures unmarked { OnOk result (tables.new.work.marks ≡ []) }
     ensures not_alien { result ≢ Err LoadFail.AlienStore }
     ensures ready { K.ready keeper.new }
     ensures place { OnOk result (K.place keeper.new ≡ Some (count, count)) }
@@ -109,9 +110,10 @@ impl<K: Keeper> Library<K> {
         ensures fits { IfOk result (λ library. Fits library.state.kept) }
         ensures no_desks { IfOk result (λ library. library.state.desks ≡ no_desks) }
 
-        // The tree is built of all words.
-        ensures words { IfOk result (λ library. HasWords library.tree library.state.kept) }
-        ensures whole { IfOk result (λ library. IsBuiltWhole library.tree) }
+        // The tree is built of all words, and no node of it is marked.
+        ensures words { IfOk result (λ library. HasWords library.tree.nodes library.state.kept) }
+        ensures whole { IfOk result (λ library. IsBuiltWhole library.tree.nodes) }
+        ensures unmarked { IfOk result (λ library. library.tree.marks ≡ []) }
         ensures bad { (readings : Readings) (n : ℕ) → K.gives keeper ≡ Some readings
             → IfErr result (λ fail. fail.0 ≡ LoadFail.BadStore n → opened readings ≡ Err n) }
 
@@ -156,8 +158,9 @@ impl<K: Keeper> Library<K> {
             → IfOk result (λ library. library.state.kept ≡ self.state.kept) }
         ensures fits { IfOk result (λ library. Fits library.state.kept) }
         ensures no_desks { IfOk result (λ library. library.state.desks ≡ no_desks) }
-        ensures words { IfOk result (λ library. HasWords library.tree library.state.kept) }
-        ensures whole { IfOk result (λ library. IsBuiltWhole library.tree) }
+        ensures words { IfOk result (λ library. HasWords library.tree.nodes library.state.kept) }
+        ensures whole { IfOk result (λ library. IsBuiltWhole library.tree.nodes) }
+        ensures unmarked { IfOk result (λ library. library.tree.marks ≡ []) }
         ensures never_bad { (readings : Readings) → K.kept self.keeper ≡ Some readings
             → IfErr result (λ fail. (n : ℕ) → fail.0 ≢ LoadFail.BadStore n) }
         ensures never_alien { (readings : Readings) → K.kept self.keeper ≡ Some readings

@@ -6,7 +6,6 @@ use Rattle.media_types.specs.declared.hash.Hash64.{Hash64}
 use Rattle.media_types.specs.declared.numbers.FileNo.{FileNo}
 use Rattle.spare_tables.specs.Table.{Table}
 use Rattle.file_records.specs.declared.file_row.FileRow.{FileRow}
-use Rattle.file_records.specs.Importing.{Planned}
 use Rattle.file_records.specs.Near.{near_pairs}
 use Rattle.file_records.specs.Living.{deleted, with_live_mark}
 use Rattle.file_records.specs.Searching.{is_queued, passes, queue_of, searched, wants_search}
@@ -20,8 +19,8 @@ use Rattle.potential_pairs.specs.Planning.{after as pairs_after}
 use Rattle.potential_pairs.specs.Potential.{AreBelow, AreOf}
 use Rattle.potential_pairs.specs.Potential.{Kept as PairsKept}
 use Rattle.vp_tree.specs.declared.node.NodeView.{NodeView}
-use Rattle.vp_tree.specs.declared.plan.InsertPlan.{InsertPlan}
 use Rattle.vp_tree.specs.Nodes.{words_in}
+use Rattle.tree_upkeep.specs.Marks.{AreNodes}
 use Rattle.tree_upkeep.specs.Queue.{Work, noted}
 use Rattle.library_machine.specs.Records.{Records, Fits}
 use Rattle.library_tables.specs.declared.deletion.PlannedLive.{PlannedLive}
@@ -31,7 +30,7 @@ use Rattle.library_tables.specs.Deletion.{LeadsLive}
 use Rattle.library_tables.specs.Imports.{LeadsImport, words_planned}
 use Rattle.library_tables.specs.Pairs.{LeadsPairs}
 use Rattle.library_tables.specs.Searches.{LeadsSearch}
-use Rattle.library_tables.specs.Tables.{TablesView, AreInStep, ArePairsOf, records_of}
+use Rattle.library_tables.specs.Tables.{TablesView, AreInStep, ArePairsOf}
 
 -- what the file records and the upkeep say of a queue in which a new file is noted
 pub record QueueLaws : Type 0 where
@@ -63,9 +62,9 @@ pub import_in_step : QueueLaws → NearLaws → (t : TablesView) (plan : Planned
     files.rows ≡ t.files.rows ++ plan.file.row ∷ [] → words_of files.rows ≡ words_of t.files.rows ++ plan.file.words → number.0 ≡ length t.files.rows →
     book.rows ≡ t.book.rows → book.files ≡ t.book.files + 1 →
     size_of groups ≡ size_of t.groups + 1 → relations_in groups ≡ relations_in t.groups →
-    words_in tree.rows ≡ words_in t.tree.rows ++ words_planned plan.words.items → work.queue ≡ noted number plan.queued t.work.queue →
+    words_in tree.rows ≡ words_in t.tree.rows ++ words_planned plan.words.items → AreNodes tree.rows work.marks → work.queue ≡ noted number plan.queued t.work.queue →
     AreInStep (record t { files = files; book = book; groups = groups; tree = tree; work = work })
-import_in_step laws near_laws t plan after step leads files book groups tree work number rows words is same_book one_more size related placed noted_is = record {
+import_in_step laws near_laws t plan after step leads files book groups tree work number rows words is same_book one_more size related placed marked noted_is = record {
   fits = subst Fits (leads.leads ∙ rw (rows, same_book) refl) leads.fits;
   decided = one_more ∙ rw rows (omega (arith, step.decided, length-append t.files.rows));
   grouped = size ∙ rw rows (omega (arith, step.grouped, length-append t.files.rows));
@@ -73,6 +72,7 @@ import_in_step laws near_laws t plan after step leads files book groups tree wor
   words =
       placed ∙ ap (λ (ws : List Hash64). ws ++ words_planned plan.words.items) step.words
       ∙ ap (λ (ws : List Hash64). words_of t.files.rows ++ ws) leads.words ∙ sym words;
+  marked = marked;
   paired = record {
     near = step.paired.near ∙ sym (near_laws.one_more plan.file.row t.files.rows leads.unsearched) ∙ ap near_pairs (sym rows);
     gone = step.paired.gone ∙ sym (near_laws.live_more plan.file.row t.files.rows leads.live) ∙ ap deleted (sym rows);
@@ -86,10 +86,10 @@ import_in_step laws near_laws t plan after step leads files book groups tree wor
 pub search_in_step : (t : TablesView) (plan : PlannedSearch) (after : Records) → AreInStep t → LeadsSearch plan t after →
     ((d : ℕ) (named : List FileNo) (files : List FileRow) → length (searched d named files) ≡ length files) →
     ((d : ℕ) (named : List FileNo) (files : List FileRow) → words_of (searched d named files) ≡ words_of files) →
-    (files : Table FileRow) (work : Work) (pairs : PairsKept) → files.rows ≡ searched plan.distance plan.files t.files.rows → work.queue ≡ queue_of t.distance files.rows →
+    (files : Table FileRow) (work : Work) (pairs : PairsKept) → files.rows ≡ searched plan.distance plan.files t.files.rows → work.queue ≡ queue_of t.distance files.rows → work.marks ≡ t.work.marks →
     pairs.rows ≡ pairs_after plan.pairs t.pairs.rows →
     AreInStep (record t { files = files; pairs = pairs; work = work })
-search_in_step t plan after step leads same_length same_words files work pairs rows queued paired =
+search_in_step t plan after step leads same_length same_words files work pairs rows queued marks paired =
     let n : length files.rows ≡ length t.files.rows = ap length rows ∙ same_length plan.distance plan.files t.files.rows in
     record {
       fits = subst Fits (leads.leads ∙ rw rows refl) leads.fits;
@@ -97,6 +97,7 @@ search_in_step t plan after step leads same_length same_words files work pairs r
       grouped = step.grouped ∙ sym n;
       related = step.related;
       words = step.words ∙ sym (same_words plan.distance plan.files t.files.rows) ∙ ap words_of (sym rows);
+      marked = rw marks step.marked;
       paired = rw (rows, paired) leads.paired.paired;
       queued = queued;
     }
@@ -111,9 +112,9 @@ pub record LiveLaws : Type 0 where
 pub live_in_step : LiveLaws → (t : TablesView) (plan : PlannedLive) (after : Records) →
     AreInStep t → LeadsLive plan t after →
     (files : Table FileRow) (work : Work) (pairs : PairsKept) → files.rows ≡ with_live_mark plan.file.0 plan.live t.files.rows →
-    work.queue ≡ noted plan.file plan.queued t.work.queue → pairs.rows ≡ pairs_after plan.pairs t.pairs.rows →
+    work.queue ≡ noted plan.file plan.queued t.work.queue → work.marks ≡ t.work.marks → pairs.rows ≡ pairs_after plan.pairs t.pairs.rows →
     AreInStep (record t { files = files; pairs = pairs; work = work })
-live_in_step laws t plan after step leads files work pairs rows noted_is paired =
+live_in_step laws t plan after step leads files work pairs rows noted_is marks paired =
     let n : length files.rows ≡ length t.files.rows = ap length rows ∙ laws.same_length plan.file.0 plan.live t.files.rows in
     record {
       fits = subst Fits (leads.leads ∙ rw rows refl) leads.fits;
@@ -121,6 +122,7 @@ live_in_step laws t plan after step leads files work pairs rows noted_is paired 
       grouped = step.grouped ∙ sym n;
       related = step.related;
       words = step.words ∙ sym (laws.words plan.file.0 plan.live t.files.rows) ∙ ap words_of (sym rows);
+      marked = rw marks step.marked;
       paired = rw (rows, paired) leads.paired.paired;
       queued =
           noted_is ∙ ap (noted plan.file plan.queued) step.queued

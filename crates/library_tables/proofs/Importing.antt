@@ -1,9 +1,8 @@
 -- What is prepared for an import is what it comes to.
-use Rattle.std.proofs.Common.{◌≡◌, ◌≤◌, ℕ, Bool, true, false, nat_lt, ◌==◌, ◌&&◌, Some, None, Ok, [], ◌∷◌, ◌++◌, List, length, not, refl, arith, ap, subst, sym, ◌∙◌}
+use Rattle.std.proofs.Common.{◌≡◌, ◌≤◌, ℕ, Bool, true, false, nat_lt, ◌==◌, ◌&&◌, None, Ok, [], ◌∷◌, ◌++◌, length, not, refl, arith, ap, sym, ◌∙◌}
 use Rattle.std.proofs.lemmas.Bool.{lt-ltb, eqb-true, eqb-false}
 use Rattle.media_types.specs.declared.limits.TheConstants.{MAX_FILES}
 use Rattle.media_types.specs.declared.new_file.NewFile.{NewFile}
-use Rattle.media_base.specs.declared.change.Change.{Change}
 use Rattle.media_base.specs.declared.change.Change.TheVariants as changes
 use Rattle.media_base.specs.declared.reply.Answer.TheVariants as answers
 use Rattle.media_base.specs.declared.reply.ImportStatus.TheVariants as imports
@@ -45,11 +44,11 @@ new_queued false = refl
 
 pub import_prepared : ChangesKeepFit → (t : TablesView) (file : NewFile) (plan : PlannedImport) (count : ℕ) → Fits (records_of t) →
     file_with file.sha t.files.rows ≡ None → nat_lt (length t.files.rows) MAX_FILES ≡ true → count ≡ length t.files.rows →
-    1 ≤ t.book.spare → 1 ≤ t.groups.spare → 1 ≤ t.work.spare →
+    1 ≤ t.book.spare → 1 ≤ t.groups.spare → 1 ≤ t.work.spare → length plan.file.words ≤ t.work.mark_spare →
     plan.file.row ≡ row_of file → IsPlannedFor plan.file t.files →
     words_planned plan.words.items ≡ plan.file.words → length plan.file.words ≤ t.tree.spare → nat_lt 0 (length file.hashes) ≡ plan.queued →
     IsPrepared (changes.File file) t (prepared.Ready (plans.Import plan) (answers.Imported (record { file = record { 0 = count }; status = imports.New })))
-import_prepared keep t file plan count fits new room is book_room group_room queue_room is_row planned words tree_room hashes =
+import_prepared keep t file plan count fits new room is book_room group_room queue_room mark_room is_row planned words tree_room hashes =
     let r = records_of t in
     let done = import_does r file new room in (
       done,
@@ -64,6 +63,7 @@ import_prepared keep t file plan count fits new room is book_room group_room que
         live = ap (λ (row : FileRow). row.live) is_row;
         told = ap (is_queued t.distance) is_row ∙ new_queued (nat_lt 0 (length file.hashes)) ∙ hashes;
         queue_room = queue_room;
+        mark_room = mark_room;
         fits = keep r (changes.File file) done fits;
         leads = import_leads r file ∙ ap (λ (row : FileRow). record r { files = r.files ++ row ∷ [] }) (sym is_row);
       },

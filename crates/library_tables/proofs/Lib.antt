@@ -3,6 +3,7 @@ pub mod Deciding
 pub mod Importing
 pub mod Mapping
 pub mod PotentialPairs
+pub mod Marking
 pub mod Placing
 pub mod Queueing
 pub mod Refolding

@@ -24,5 +24,6 @@ pub record LeadsImport (plan : PlannedImport) (t : TablesView) (after : Records)
   pub live : plan.file.row.live ≡ true
   pub told : is_queued t.distance plan.file.row ≡ plan.queued
   pub queue_room : 1 ≤ t.work.spare
+  pub mark_room : length plan.file.words ≤ t.work.mark_spare
   pub fits : Fits after
   pub leads : after ≡ record (records_of t) { files = t.files.rows ++ plan.file.row ∷ [] }

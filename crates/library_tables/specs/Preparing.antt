@@ -4,7 +4,10 @@ use Rattle.media_types.specs.declared.hash.Hash64.{Hash64}
 use Rattle.media_base.specs.declared.change.Change.{Change}
 use Rattle.media_base.specs.declared.change.Change.TheVariants as changes
 use Rattle.media_base.specs.declared.command.Job.{Job}
+use Rattle.media_base.specs.declared.command.Upkeep.{Upkeep}
+use Rattle.media_base.specs.declared.command.Upkeep.TheVariants as upkeeps
 use Rattle.file_records.specs.Words.{new_words, words_of}
+use Rattle.vp_tree.specs.Marking.{IsRebalanced, MarkedTree}
 use Rattle.library_machine.specs.Changing.{answer_to, does, effect}
 use Rattle.library_machine.specs.Jobs.{makes, tells, worked_out}
 use Rattle.library_machine.specs.Records.{Records}
@@ -50,6 +53,10 @@ IsPrepared c t (prepared.Idle answer) = (does (records_of t) c ≡ Ok true) × (
 IsPrepared c t (prepared.Ready plan answer) =
     (does (records_of t) c ≡ Ok false) × (answer_to (records_of t) c ≡ answer)
     × Leads plan t (effect (records_of t) c) × (words_placed plan ≡ words_brought (records_of t) c)
+
+-- what upkeep does to the tree and its marks
+abbrev pub IsTended : Upkeep → MarkedTree → MarkedTree → Type 0
+IsTended upkeeps.Rebalance old new = IsRebalanced old new
 
 -- the deed is what the job works out
 abbrev pub IsWorkedOut : Records → Job → Deed → Type 0

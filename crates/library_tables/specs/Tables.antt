@@ -13,7 +13,9 @@ use Rattle.relation_groups.specs.Relations.{Relations, relations}
 use Rattle.potential_pairs.specs.Potential.{AreOf, PairsView}
 use Rattle.potential_pairs.specs.Potential.{Kept as PairsKept}
 use Rattle.vp_tree.specs.declared.node.NodeView.{NodeView}
+use Rattle.vp_tree.specs.Marking.{MarkedTree}
 use Rattle.vp_tree.specs.Nodes.{words_in}
+use Rattle.tree_upkeep.specs.Marks.{AreNodes}
 use Rattle.tree_upkeep.specs.Queue.{Work}
 use Rattle.tag_types.specs.declared.orders.Orders.{Orders}
 use Rattle.tag_store.specs.Mapped.{Row}
@@ -43,6 +45,13 @@ records_of t = record {
   mappings = t.mappings.rows;
 }
 
+-- a tree with the marks of its nodes
+abbrev pub with_marks : Table NodeView → Work → MarkedTree
+with_marks tree work = record { nodes = tree.rows; marks = work.marks }
+
+abbrev pub marked_tree : TablesView → MarkedTree
+marked_tree t = with_marks t.tree t.work
+
 -- the tree has the hashes of the files, by number
 abbrev pub HasWords : List NodeView → Records → Type 0
 HasWords tree r = words_in tree ≡ words_of r.files
@@ -55,13 +64,14 @@ pub record ArePairsOf (R : Relations) (rows : List FileRow) (pairs : PairsView) 
   pub of : AreOf R pairs
 
 -- The tables speak of the same files, and the groups are those that the standing decisions make. The tree
--- has the hashes of the files, by number, the pairs are those of the files and groups, and the queue has the
--- files that are to be searched.
+-- has the hashes of the files, by number, and marks are of its nodes. The pairs are those of the files and
+-- groups, and the queue has the files that are to be searched.
 pub record AreInStep (t : TablesView) : Type 0 where
   pub fits : Fits (records_of t)
   pub decided : t.book.files ≡ length t.files.rows
   pub grouped : size_of t.groups ≡ length t.files.rows
   pub related : relations_in t.groups ≡ relations (standing t.book.rows)
   pub words : HasWords t.tree.rows (records_of t)
+  pub marked : AreNodes t.tree.rows t.work.marks
   pub paired : ArePairsOf (relations_in t.groups) t.files.rows t.pairs.rows
   pub queued : t.work.queue ≡ queue_of t.distance t.files.rows

@@ -8,7 +8,7 @@ ghost use Rattle.library_machine.specs.Needs.{has_file};
 ghost use Rattle.library_machine.specs.Records.{Records};
 ghost use Rattle.library_tables.specs.Decisions.{LeadsDecide, LeadsUndo};
 ghost use Rattle.library_tables.specs.Preparing.{IsPrepared};
-ghost use Rattle.library_tables.specs.Tables.{HasWords, records_of};
+ghost use Rattle.library_tables.specs.Tables.{HasWords, marked_tree, records_of};
 
 use crate::numbers::all_files;
 use crate::plan::{Prepared, TablesPlan};
@@ -42,7 +42,7 @@ impl Tables {
         steps: &mut Steps<L>,
     ) -> Result<Prepared, NoMemory>
         ensures records { records_of self.new ≡ records_of self.old }
-        ensures tree { self.new.tree.rows ≡ self.old.tree.rows }
+        ensures tree { marked_tree self.new ≡ marked_tree self.old }
         ensures prepared { IfOk result (IsPrepared (changes.Decision decision) self.new) }
     {
         if !self.has_both(decision) {
@@ -86,7 +86,7 @@ impl Tables {
         steps: &mut Steps<L>,
     ) -> Result<Prepared, NoMemory>
         ensures records { records_of self.new ≡ records_of self.old }
-        ensures tree { self.new.tree.rows ≡ self.old.tree.rows }
+        ensures tree { marked_tree self.new ≡ marked_tree self.old }
         ensures prepared { IfOk result (IsPrepared (changes.Undo number) self.new) }
     {
         if number.0 >= self.book.len() {
@@ -116,7 +116,7 @@ impl Tables {
     pub(crate) fn commit_decide(&mut self, plan: PlannedDecision)
         requires { (after : Records) × LeadsDecide plan self.old after }
         ensures records { (after : Records) → LeadsDecide plan self.old after → records_of self.new ≡ after }
-        ensures tree { self.new.tree.rows ≡ self.old.tree.rows }
+        ensures tree { marked_tree self.new ≡ marked_tree self.old }
         ensures words { HasWords self.new.tree.rows (records_of self.new) }
     {
         let Decision { code, a, b } = plan.decision;
@@ -128,7 +128,7 @@ impl Tables {
     pub(crate) fn commit_undo(&mut self, plan: PlannedUndo)
         requires { (after : Records) × LeadsUndo plan self.old after }
         ensures records { (after : Records) → LeadsUndo plan self.old after → records_of self.new ≡ after }
-        ensures tree { self.new.tree.rows ≡ self.old.tree.rows }
+        ensures tree { marked_tree self.new ≡ marked_tree self.old }
         ensures words { HasWords self.new.tree.rows (records_of self.new) }
     {
         self.book.undo(plan.number);

@@ -6,7 +6,7 @@ ghost use Rattle.library_machine.specs.Records.{Records};
 ghost use Rattle.library_tables.specs.Counting.{live_reads};
 ghost use Rattle.library_tables.specs.Deletion.{LeadsLive};
 ghost use Rattle.library_tables.specs.Preparing.{IsPrepared};
-ghost use Rattle.library_tables.specs.Tables.{HasWords, records_of};
+ghost use Rattle.library_tables.specs.Tables.{HasWords, marked_tree, records_of};
 
 use crate::plan::{Prepared, TablesPlan};
 use crate::tables::Tables;
@@ -33,7 +33,7 @@ impl Tables {
         steps: &mut Steps<L>,
     ) -> Result<Prepared, NoMemory>
         ensures records { records_of self.new ≡ records_of self.old }
-        ensures tree { self.new.tree.rows ≡ self.old.tree.rows }
+        ensures tree { marked_tree self.new ≡ marked_tree self.old }
         ensures prepared { IfOk result (IsPrepared (changes.Live file live) self.new) }
         ensures reads { steps.new ≤ steps.old + live_reads (records_of self.old) file }
     {
@@ -63,7 +63,7 @@ impl Tables {
     pub(crate) fn commit_live(&mut self, plan: PlannedLive)
         requires { (after : Records) × LeadsLive plan self.old after }
         ensures records { (after : Records) → LeadsLive plan self.old after → records_of self.new ≡ after }
-        ensures tree { self.new.tree.rows ≡ self.old.tree.rows }
+        ensures tree { marked_tree self.new ≡ marked_tree self.old }
         ensures words { HasWords self.new.tree.rows (records_of self.new) }
     {
         file_records::live_laws();

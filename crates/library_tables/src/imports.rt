@@ -2,12 +2,12 @@
 
 ghost use Rattle.std.specs.Prelude.{◌≡◌, ◌<◌, [], length, IfOk};
 ghost use Rattle.media_base.specs.declared.change.Change.TheVariants as changes;
-ghost use Rattle.vp_tree.specs.Placing.{ArePlaced};
+ghost use Rattle.vp_tree.specs.Marking.{ArePlaced};
 ghost use Rattle.library_machine.specs.Changing as machine;
 ghost use Rattle.library_machine.specs.Records.{Records};
 ghost use Rattle.library_tables.specs.Imports.{LeadsImport, words_planned};
 ghost use Rattle.library_tables.specs.Preparing.{IsPrepared};
-ghost use Rattle.library_tables.specs.Tables.{HasWords, records_of};
+ghost use Rattle.library_tables.specs.Tables.{HasWords, marked_tree, records_of};
 
 use crate::plan::{Prepared, TablesPlan};
 use crate::tables::Tables;
@@ -36,7 +36,7 @@ impl Tables {
         steps: &mut Steps<L>,
     ) -> Result<Prepared, NoMemory>
         ensures records { records_of self.new ≡ records_of self.old }
-        ensures tree { self.new.tree.rows ≡ self.old.tree.rows }
+        ensures tree { marked_tree self.new ≡ marked_tree self.old }
         ensures prepared { IfOk result (IsPrepared (changes.File file.now) self.new) }
     {
         if let Some(number) = self.files.find(&file.sha) {
@@ -84,7 +84,7 @@ impl Tables {
     pub(crate) fn commit_import<L: Ledger>(&mut self, plan: PlannedImport, steps: &mut Steps<L>)
         requires { (after : Records) × LeadsImport plan self.old after }
         ensures records { (after : Records) → LeadsImport plan self.old after → records_of self.new ≡ after }
-        ensures tree { ArePlaced self.old.tree.rows (words_planned plan.words.items) self.new.tree.rows }
+        ensures tree { ArePlaced (marked_tree self.old) (words_planned plan.words.items) (marked_tree self.new) }
         ensures words { HasWords self.new.tree.rows (records_of self.new) }
         ensures steps { words_planned plan.words.items ≡ [] → steps.new ≡ steps.old }
     {
@@ -99,7 +99,7 @@ impl Tables {
         let number = self.files.commit_import(file);
         self.book.add_file();
         self.groups.add_file();
-        place_words(&mut self.tree, words, steps);
+        place_words(&mut self.tree, &mut self.upkeep, words, steps);
         self.upkeep.note(number, queued);
     }
 }

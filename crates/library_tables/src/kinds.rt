@@ -1,11 +1,11 @@
 //! What is done, by kinds: a query is answered, a change is planned, a job is worked out, and upkeep is done.
 
-ghost use Rattle.std.specs.Prelude.{◌≡◌, IfOk};
+ghost use Rattle.std.specs.Prelude.{◌≡◌, IfOk, OnErr, OnOk};
 ghost use Rattle.library_machine.specs.Asking as machine;
 ghost use Rattle.library_machine.specs.Jobs.{tended};
 ghost use Rattle.library_tables.specs.Counting.{IsWithin, change_reads, job_reads, query_reads};
-ghost use Rattle.library_tables.specs.Preparing.{IsPrepared, IsWorkedOut};
-ghost use Rattle.library_tables.specs.Tables.{records_of};
+ghost use Rattle.library_tables.specs.Preparing.{IsPrepared, IsTended, IsWorkedOut};
+ghost use Rattle.library_tables.specs.Tables.{HasWords, marked_tree, records_of};
 
 use crate::plan::{Deed, Prepared};
 use crate::tables::Tables;
@@ -43,7 +43,7 @@ impl Tables {
         steps: &mut Steps<L>,
     ) -> Result<Prepared, NoMemory>
         ensures records { records_of self.new ≡ records_of self.old }
-        ensures tree { self.new.tree.rows ≡ self.old.tree.rows }
+        ensures tree { marked_tree self.new ≡ marked_tree self.old }
         ensures prepared { IfOk result (IsPrepared change.now self.new) }
         ensures reads { IsWithin (change_reads (records_of self.old) self.old.tree.rows change.now)
             steps.old steps.new }
@@ -71,19 +71,24 @@ impl Tables {
         }
     }
 
-    /// Changes how the records are kept, and no record.
+    /// Changes how the records are kept, and no record: the branch at the lowest marked node is built anew.
     #[tactic(auto, unfolding(library_machine::specs::Jobs::tended))]
     pub fn tend<L: Ledger>(
         &mut self,
         upkeep: Upkeep,
-        _steps: &mut Steps<L>,
+        steps: &mut Steps<L>,
     ) -> Result<Answer, NoMemory>
         ensures records { records_of self.new ≡ records_of self.old }
-        ensures tree { self.new.tree.rows ≡ self.old.tree.rows }
+        ensures tree { OnOk result (IsTended upkeep (marked_tree self.old) (marked_tree self.new)) }
+        ensures err { OnErr result (marked_tree self.new ≡ marked_tree self.old) }
+        ensures words { HasWords self.new.tree.rows (records_of self.new) }
         ensures answer { IfOk result (λ answer. answer ≡ tended upkeep) }
     {
         match upkeep {
-            Upkeep::Rebalance => Ok(Answer::Rebalanced),
+            Upkeep::Rebalance => {
+                self.rebalance(steps)?;
+                Ok(Answer::Rebalanced)
+            }
         }
     }
 }

@@ -14,7 +14,7 @@ ghost use Rattle.library_machine.specs.Searches.{next_search};
 ghost use Rattle.library_tables.specs.Counting.{search_meets};
 ghost use Rattle.library_tables.specs.Preparing.{IsPrepared, IsWorkedOut};
 ghost use Rattle.library_tables.specs.Searches.{LeadsDistance, LeadsSearch};
-ghost use Rattle.library_tables.specs.Tables.{HasWords, records_of};
+ghost use Rattle.library_tables.specs.Tables.{HasWords, marked_tree, records_of};
 
 use crate::plan::{Deed, Prepared, TablesPlan};
 use crate::tables::Tables;
@@ -51,7 +51,7 @@ impl Tables {
         steps: &mut Steps<L>,
     ) -> Result<Prepared, NoMemory>
         ensures records { records_of self.new ≡ records_of self.old }
-        ensures tree { self.new.tree.rows ≡ self.old.tree.rows }
+        ensures tree { marked_tree self.new ≡ marked_tree self.old }
         ensures prepared { IfOk result (IsPrepared (changes.Distance distance) self.new) }
     {
         let answer = Answer::Distance(distance);
@@ -75,7 +75,7 @@ impl Tables {
         steps: &mut Steps<L>,
     ) -> Result<Prepared, NoMemory>
         ensures records { records_of self.new ≡ records_of self.old }
-        ensures tree { self.new.tree.rows ≡ self.old.tree.rows }
+        ensures tree { marked_tree self.new ≡ marked_tree self.old }
         ensures prepared { IfOk result (IsPrepared (changes.Searched searching.now) self.new) }
         ensures reads { steps.new ≤ steps.old + 16 * search_meets (records_of self.old) self.old.tree.rows searching.now }
     {
@@ -179,7 +179,7 @@ impl Tables {
     pub(crate) fn commit_distance(&mut self, plan: PlannedDistance)
         requires { (after : Records) × LeadsDistance plan self.old after }
         ensures records { (after : Records) → LeadsDistance plan self.old after → records_of self.new ≡ after }
-        ensures tree { self.new.tree.rows ≡ self.old.tree.rows }
+        ensures tree { marked_tree self.new ≡ marked_tree self.old }
         ensures words { HasWords self.new.tree.rows (records_of self.new) }
     {
         self.upkeep.commit_queue(plan.queue);
@@ -189,7 +189,7 @@ impl Tables {
     pub(crate) fn commit_search(&mut self, plan: PlannedSearch)
         requires { (after : Records) × LeadsSearch plan self.old after }
         ensures records { (after : Records) → LeadsSearch plan self.old after → records_of self.new ≡ after }
-        ensures tree { self.new.tree.rows ≡ self.old.tree.rows }
+        ensures tree { marked_tree self.new ≡ marked_tree self.old }
         ensures words { HasWords self.new.tree.rows (records_of self.new) }
     {
         file_records::search_laws();
@@ -225,6 +225,7 @@ fn note_searched(
     requires queued { upkeep.old.queue ≡ queue_of library files.old.rows }
     ensures rows { files.new.rows ≡ searched distance found.now files.old.rows }
     ensures queued { upkeep.new.queue ≡ queue_of library files.new.rows }
+    ensures marks { upkeep.new.marks ≡ upkeep.old.marks }
 {
     file_records::search_laws();
     tree_upkeep::laws();

@@ -1,10 +1,11 @@
-ghost use Rattle.std.specs.Prelude.{◌≡◌, [], OnOk};
+ghost use Rattle.std.specs.Prelude.{◌≡◌, ◌≤◌, ◌+◌, [], OnErr, OnOk};
 ghost use Rattle.vp_tree.specs.Building.{IsBuiltWhole};
-ghost use Rattle.vp_tree.specs.Placing.{ArePlaced};
+ghost use Rattle.vp_tree.specs.Marking.{ArePlaced, IsRebalanced};
+ghost use Rattle.tree_upkeep.specs.Marks.{marked_size};
 ghost use Rattle.library_machine.specs.Needs as machine;
 ghost use Rattle.library_machine.specs.Records.{Fits, Records, no_records};
 ghost use Rattle.library_tables.specs.Preparing.{Leads, words_placed};
-ghost use Rattle.library_tables.specs.Tables.{HasWords, records_of};
+ghost use Rattle.library_tables.specs.Tables.{HasWords, marked_tree, records_of};
 
 use crate::plan::TablesPlan;
 use decision_book::Book;
@@ -20,8 +21,8 @@ use tree_upkeep::Upkeep;
 use vp_tree::Tree;
 
 /// The tables of a library: its files, its decisions, the groups that the standing decisions make of the
-/// files, the tree of their hashes, their near pairs with the potential pairs of groups, and the queue of
-/// those that are to be searched. A change is planned first, which takes all memory, and then it can't be
+/// files, the tree of their hashes, their near pairs with the potential pairs of groups, the queue of those
+/// that are to be searched, and the marks of the tree's nodes. A change is planned first, which takes all memory, and then it can't be
 /// refused.
 #[derive(Drop)]
 pub struct Tables {
@@ -33,7 +34,7 @@ pub struct Tables {
     pub(crate) tree: Tree,
     /// The near pairs of the files, and the potential pairs that they make of the groups.
     pub(crate) pairs: Pairs,
-    /// The files that are to be searched.
+    /// The files that are to be searched, and the nodes of the tree whose branches are to be built anew.
     pub(crate) upkeep: Upkeep,
     /// Within which files are searched.
     pub(crate) distance: SearchDistance,
@@ -80,6 +81,7 @@ impl Tables {
     pub fn new(alloc: Global) -> Tables
         ensures records { records_of result ≡ no_records }
         ensures tree { result.tree.rows ≡ [] }
+        ensures marks { result.work.marks ≡ [] }
     {
         library_machine::records_stay_fit();
         Tables {
@@ -107,7 +109,7 @@ impl Tables {
     pub fn commit<L: Ledger>(&mut self, plan: TablesPlan, steps: &mut Steps<L>)
         requires { (after : Records) × Leads plan self.old after }
         ensures records { (after : Records) → Leads plan self.old after → records_of self.new ≡ after }
-        ensures tree { ArePlaced self.old.tree.rows (words_placed plan) self.new.tree.rows }
+        ensures tree { ArePlaced (marked_tree self.old) (words_placed plan) (marked_tree self.new) }
         ensures words { HasWords self.new.tree.rows (records_of self.new) }
         ensures steps { words_placed plan ≡ [] → steps.new ≡ steps.old }
     {
@@ -127,7 +129,7 @@ impl Tables {
     /// Gives a planned change up.
     pub fn withdraw(&mut self, plan: TablesPlan)
         ensures records { records_of self.new ≡ records_of self.old }
-        ensures tree { self.new.tree.rows ≡ self.old.tree.rows }
+        ensures tree { marked_tree self.new ≡ marked_tree self.old }
     {
         match plan {
             TablesPlan::Import(plan) => self.files.withdraw(plan.file),
@@ -142,18 +144,33 @@ impl Tables {
         }
     }
 
-    /// Builds the tree of all words anew.
+    /// Builds the tree of all words anew. No node is marked then.
     pub fn build_tree<L: Ledger>(&mut self, steps: &mut Steps<L>) -> Result<(), NoMemory>
         ensures records { records_of self.new ≡ records_of self.old }
         ensures fits { Fits (records_of self.new) }
         ensures whole { OnOk result (IsBuiltWhole self.new.tree.rows) }
+        ensures unmarked { self.new.work.marks ≡ [] }
         ensures words { HasWords self.new.tree.rows (records_of self.new) }
     {
+        self.upkeep.clear_marks();
         if self.tree.len() == 0 {
             return Ok(());
         }
         let plan = self.tree.plan_build(HashNo(0), steps)?;
         self.tree.commit_build(plan);
+        Ok(())
+    }
+
+    /// Builds the branch at the lowest marked node anew, if one is marked.
+    pub(crate) fn rebalance<L: Ledger>(&mut self, steps: &mut Steps<L>) -> Result<(), NoMemory>
+        ensures records { records_of self.new ≡ records_of self.old }
+        ensures rebalanced { OnOk result (IsRebalanced (marked_tree self.old) (marked_tree self.new)) }
+        ensures err { OnErr result (marked_tree self.new ≡ marked_tree self.old) }
+        ensures words { HasWords self.new.tree.rows (records_of self.new) }
+        ensures reads { steps.new ≤ steps.old + (1 + marked_size self.old.tree.rows self.old.work.marks) }
+    {
+        let plan = self.upkeep.plan_rebuild(&self.tree, steps)?;
+        self.upkeep.commit_rebuild(&mut self.tree, plan);
         Ok(())
     }
 }

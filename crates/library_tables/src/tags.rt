@@ -12,7 +12,7 @@ ghost use Rattle.library_machine.specs.Records.{Fits, Records};
 ghost use Rattle.library_machine.specs.Tagging.{file_mappings, is_same, mapped, numbered, services_named};
 ghost use Rattle.library_tables.specs.Counting.{mappings_reads};
 ghost use Rattle.library_tables.specs.Preparing.{IsPrepared};
-ghost use Rattle.library_tables.specs.Tables.{HasWords, records_of};
+ghost use Rattle.library_tables.specs.Tables.{HasWords, marked_tree, records_of};
 ghost use Rattle.library_tables.specs.Tags.{HasTagRoom, IsReady, LeadsMapping, LeadsOrders, LeadsService, with_text};
 
 use crate::plan::{Prepared, TablesPlan};
@@ -51,7 +51,7 @@ impl Tables {
     #[tactic(auto, unfolding(library_machine::specs::Changing::needs, library_machine::specs::Changing::is_idle, library_machine::specs::Changing::effect, library_machine::specs::Changing::answer_to))]
     pub(crate) fn plan_service(&mut self) -> Result<Prepared, NoMemory>
         ensures records { records_of self.new ≡ records_of self.old }
-        ensures tree { self.new.tree.rows ≡ self.old.tree.rows }
+        ensures tree { marked_tree self.new ≡ marked_tree self.old }
         ensures prepared { IfOk result (IsPrepared changes.Service self.new) }
     {
         let count = self.services.len();
@@ -72,7 +72,7 @@ impl Tables {
         orders: &Orders,
     ) -> Result<Prepared, NoMemory>
         ensures records { records_of self.new ≡ records_of self.old }
-        ensures tree { self.new.tree.rows ≡ self.old.tree.rows }
+        ensures tree { marked_tree self.new ≡ marked_tree self.old }
         ensures prepared { IfOk result (IsPrepared (changes.Orders service orders.now) self.new) }
     {
         if !self.has_services(service, orders) {
@@ -112,7 +112,7 @@ impl Tables {
         steps: &mut Steps<L>,
     ) -> Result<Prepared, NoMemory>
         ensures records { records_of self.new ≡ records_of self.old }
-        ensures tree { self.new.tree.rows ≡ self.old.tree.rows }
+        ensures tree { marked_tree self.new ≡ marked_tree self.old }
         ensures prepared { IfOk result (IsPrepared (changes.Mapping mapping.now) self.new) }
         ensures reads { steps.new ≤ steps.old + 1 }
     {
@@ -140,7 +140,7 @@ impl Tables {
         requires found { found ≡ mapped (records_of self.old) mapping.now.service mapping.now.tag mapping.now.file }
         requires state { is_some mapping.now.state ≡ true }
         ensures records { records_of self.new ≡ records_of self.old }
-        ensures tree { self.new.tree.rows ≡ self.old.tree.rows }
+        ensures tree { marked_tree self.new ≡ marked_tree self.old }
         ensures prepared { IfOk result (IsPrepared (changes.Mapping mapping.now) self.new) }
     {
         if !self.has_room_for_tag(&mapping.tag) {
@@ -172,7 +172,7 @@ impl Tables {
         requires found { found ≡ mapped (records_of self.old) mapping.now.service mapping.now.tag mapping.now.file }
         requires state { is_some mapping.now.state ≡ false }
         ensures records { records_of self.new ≡ records_of self.old }
-        ensures tree { self.new.tree.rows ≡ self.old.tree.rows }
+        ensures tree { marked_tree self.new ≡ marked_tree self.old }
         ensures prepared { IfOk result (IsPrepared (changes.Mapping mapping.now) self.new) }
     {
         if !self.has_tag(&mapping.tag) {
@@ -231,7 +231,7 @@ impl Tables {
     fn ready_mapping(&mut self, mapping: &Mapping) -> Result<PlannedMapping, NoMemory>
         requires { HasPlaceFor mapping.now.tag self.old.tags.texts }
         ensures records { records_of self.new ≡ records_of self.old }
-        ensures tree { self.new.tree.rows ≡ self.old.tree.rows }
+        ensures tree { marked_tree self.new ≡ marked_tree self.old }
         ensures fits { Fits (records_of self.new) }
         ensures ready { IfOk result (λ plan. IsReady plan mapping.now self.new) }
     {
@@ -268,7 +268,7 @@ impl Tables {
     pub(crate) fn commit_service(&mut self)
         requires { (after : Records) × LeadsService self.old after }
         ensures records { (after : Records) → LeadsService self.old after → records_of self.new ≡ after }
-        ensures tree { self.new.tree.rows ≡ self.old.tree.rows }
+        ensures tree { marked_tree self.new ≡ marked_tree self.old }
         ensures words { HasWords self.new.tree.rows (records_of self.new) }
     {
         self.services.add();
@@ -277,7 +277,7 @@ impl Tables {
     pub(crate) fn commit_orders(&mut self, plan: PlannedOrders)
         requires { (after : Records) × LeadsOrders plan self.old after }
         ensures records { (after : Records) → LeadsOrders plan self.old after → records_of self.new ≡ after }
-        ensures tree { self.new.tree.rows ≡ self.old.tree.rows }
+        ensures tree { marked_tree self.new ≡ marked_tree self.old }
         ensures words { HasWords self.new.tree.rows (records_of self.new) }
     {
         self.services.set(plan.service, plan.orders);
@@ -286,7 +286,7 @@ impl Tables {
     pub(crate) fn commit_mapping(&mut self, plan: PlannedMapping)
         requires { (after : Records) × LeadsMapping plan self.old after }
         ensures records { (after : Records) → LeadsMapping plan self.old after → records_of self.new ≡ after }
-        ensures tree { self.new.tree.rows ≡ self.old.tree.rows }
+        ensures tree { marked_tree self.new ≡ marked_tree self.old }
         ensures words { HasWords self.new.tree.rows (records_of self.new) }
     {
         let PlannedMapping {

@@ -164,7 +164,7 @@ module _ {K : Type 0} (tells : Telling K) where
   pub plays_unopened : (status : Status) (gives : Option Readings) (old new : K) (left taken : Option (List ℕ)) → (HasOpened status → ⊥) → tells.kept new ≡ tells.kept old → tells.faults old ≤ tells.faults new
       → Plays tells gives old new status left left taken taken
   plays_unopened status gives old new left taken unopened same later =
-      let at_rest : SessionState K = record { machine = at_opening no_records; keeper = new } in
+      let at_rest : SessionState K = record { machine = at_opening no_records; tree = record { nodes = []; marks = [] }; keeper = new } in
       record {
         opening = at_rest;
         after = at_rest;
@@ -178,6 +178,7 @@ module _ {K : Type 0} (tells : Telling K) where
         own = λ opened. absurd (unopened opened);
         opens = λ opened. absurd (unopened opened);
         desks = λ opened. absurd (unopened opened);
+        tree = λ opened. absurd (unopened opened);
         reopens = λ opened. absurd (unopened opened);
         kept_first = same;
         faults_first = later;

@@ -68,8 +68,8 @@ module _ {K : Type 0} (tells : Telling K) where
       }
 
   pub line_tells : NeverReadAs refusals.JournalFull → (s t : SessionState K) (line : List ℕ) (reply : Reply) → LineAnswered tells s line reply t → TellsRoom tells s line reply t
-  line_tells never s t line reply (as_command command spelled done) =
-      command_tells s t command reply line (change_of (step s.machine callers.Console command)) (ap (change_for s.machine) spelled) refl done
+  line_tells never s t line reply (as_command command spelled answered) =
+      command_tells s t command reply line (change_of (step s.machine callers.Console command)) (ap (change_for s.machine) spelled) refl answered.done
   line_tells never s t line reply (as_refused why read is same) =
       refusal_tells s t line why reply is same
       (λ full. never line (read ∙ ap Err full))

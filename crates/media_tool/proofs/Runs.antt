@@ -55,7 +55,7 @@ module _ {K : Type 0} (tells : Telling K) where
 
   line_goes_on : (s t : SessionState K) (line : List ℕ) (reply : Reply) → LineAnswered tells s line reply t → GoesOn s t
   line_goes_on s t line reply (as_command command spelled answered) =
-      record { later = answered.later; room = record { limit = answered.same_limit; units = answered.same_units } }
+      record { later = answered.done.later; room = record { limit = answered.done.same_limit; units = answered.done.same_units } }
   line_goes_on s t line reply (as_refused why read is same) = unchanged s t same
   line_goes_on s t line reply (as_no_memory is same) = unchanged s t same
 
@@ -75,7 +75,7 @@ module _ {K : Type 0} (tells : Telling K) where
 
   -- where the reply says so, the keeper has failed once more
   answered_rose : NeverReadAs refusals.NotKept → (s t : SessionState K) (line : List ℕ) (reply : Reply) → LineAnswered tells s line reply t → reply ≡ Err refusals.NotKept → Rose (tells.faults s.keeper) (tells.faults t.keeper)
-  answered_rose never s t line reply (as_command command spelled answered) is = answered.not_kept is
+  answered_rose never s t line reply (as_command command spelled answered) is = answered.done.not_kept is
   answered_rose never s t line reply (as_refused why read same_reply same) is =
       let e : why ≡ refusals.NotKept = cc in absurd (never line (subst (λ (refusal : Refusal). line_command line ≡ Err refusal) e read))
   answered_rose never s t line reply (as_no_memory same_reply same) is = absurd cc

@@ -8,20 +8,23 @@ use Rattle.media_base.specs.declared.refusal.Refusal.{Refusal}
 use Rattle.media_base.specs.declared.refusal.Refusal.TheVariants as refusals
 use Rattle.media_base.specs.Keeping.{Readings}
 use Rattle.media_base.specs.Replying.{Reply}
-use Rattle.library_machine.specs.Step.{State, step}
+use Rattle.library_machine.specs.Step.{State, change_of, step}
 use Rattle.command_text.specs.Reading.{line_command}
 use Rattle.reply_text.specs.ReplyText.{reply_line}
 use Rattle.library_core.specs.Done.{Telling, IsDone}
-use Rattle.library_core.specs.Keeping.{LibraryView}
+use Rattle.library_core.specs.Keeping.{Follows, LibraryView}
+use Rattle.library_core.specs.Marking.{MarkedTree}
 
--- What a session goes through: the state of the machine, and the keeper of its changes.
+-- What a session goes through: the state of the machine, the tree of the hashes with its marks, and the keeper of
+-- its changes.
 pub record SessionState (K : Type 0) : Type 0 where
   pub machine : State
+  pub tree : MarkedTree
   pub keeper : K
 
 -- the state of a session over this library
 abbrev pub state_of : {K : Type 0} → LibraryView K → SessionState K
-state_of library = record { machine = library.state; keeper = library.keeper }
+state_of library = record { machine = library.state; tree = library.tree; keeper = library.keeper }
 
 -- what the keepers of a kind tell
 abbrev pub telling : {K : Type 0} → (K → Option Readings) → (K → Option Bool) → (K → ℕ) → (K → ℕ) → (K → Change → ℕ) → (K → ℕ) → Telling K
@@ -30,9 +33,9 @@ telling kept alien faults used units limit =
 
 module _ {K : Type 0} (tells : Telling K) where
   -- A command of the console may be answered so, and leaves this state.
-  abbrev pub CommandAnswered : SessionState K → Command → Reply → SessionState K → Type 0
-  CommandAnswered s command reply t =
-      IsDone tells s.machine s.keeper (step s.machine callers.Console command) reply t.machine t.keeper
+  pub record CommandAnswered (s : SessionState K) (command : Command) (reply : Reply) (t : SessionState K) : Type 0 where
+    pub done : IsDone tells s.machine s.keeper (step s.machine callers.Console command) reply t.machine t.keeper
+    pub tree : Follows s.machine.kept command (change_of (step s.machine callers.Console command)) reply s.tree t.tree
 
   -- One line may be answered so: with the answer to the console's command that it spells, with the refusal of
   -- its reading, or with want of memory. A line that isn't answered as a command changes nothing.

@@ -8,6 +8,7 @@ use Rattle.media_base.specs.declared.status.Status.TheVariants as statuses
 use Rattle.library_machine.specs.Desks.{no_desks}
 use Rattle.library_machine.specs.Opening.{opened}
 use Rattle.library_core.specs.Done.{Telling}
+use Rattle.library_core.specs.Keeping.{IsFresh}
 use Rattle.library_core.specs.declared.load_fail.LoadFail.{LoadFail}
 use Rattle.library_core.specs.declared.load_fail.LoadFail.TheVariants as fails
 use Rattle.media_tool.specs.Lines.{Cut, with_rest}
@@ -97,7 +98,7 @@ module _ {K : Type 0} (tells : Telling K) where
     pub units : tells.units new ≡ tells.units old
 
   -- A session over a keeper, which comes back. Where the library opens, it begins with the records that the
-  -- keeper's changes open and no desk, and the keeper then keeps what the replies say: its changes open the
+  -- keeper's changes open, no desk, and the tree that is built of all words and has no mark; and the keeper then keeps what the replies say: its changes open the
   -- records that the session ends with.
   pub record Plays (gives : Option Readings) (old new : K) (status : Status) (left_old left_new taken_old taken_new : Option (List ℕ)) : Type 0 where
     pub opening : SessionState K
@@ -107,6 +108,7 @@ module _ {K : Type 0} (tells : Telling K) where
     pub own : HasOpened status → tells.alien old ≢ Some true
     pub opens : HasOpened status → (readings : Readings) → gives ≡ Some readings → opened readings ≡ Ok opening.machine.kept
     pub desks : HasOpened status → opening.machine.desks ≡ no_desks
+    pub tree : HasOpened status → IsFresh opening.tree opening.machine.kept
     pub reopens : HasOpened status → (readings : Readings) → tells.kept new ≡ Some readings → opened readings ≡ Ok after.machine.kept
     pub kept_first : tells.kept opening.keeper ≡ tells.kept old
     pub faults_first : tells.faults old ≤ tells.faults opening.keeper

@@ -1,12 +1,15 @@
--- The queue of the files that are to be searched.
+-- The queue of the files that are to be searched, and what is seen beside it.
 use Rattle.std.specs.Prelude.{ℕ, ◌<◌, Bool, nat_lt, if◌then◌else◌, List, [], ◌∷◌, ◌++◌, filter}
 use Rattle.std.specs.List.{AllPairs}
 use Rattle.media_types.specs.declared.numbers.FileNo.{FileNo}
 
--- what a contract sees of the upkeep: the queue, and how many more files it has room for
+-- what a contract sees of the upkeep: the queue, and how many more files it has room for; the numbers of the
+-- marked nodes, ascending, and how many more marks it has room for
 pub record Work : Type 0 where
   pub queue : List FileNo
   pub spare : ℕ
+  pub marks : List ℕ
+  pub mark_spare : ℕ
 
 -- each file is before the greater ones, and no file stands twice
 abbrev pub Ascend : List FileNo → Type 0

@@ -1,13 +1,15 @@
-ghost use Rattle.std.specs.Prelude.{◌≡◌, ◌<◌};
+ghost use Rattle.std.specs.Prelude.{◌≡◌, ◌<◌, [], ◌∷◌, length, OnOk};
+ghost use Rattle.tree_upkeep.specs.Marks.{AreNodes};
 
 use super::*;
-use media_types::{FileNo, NoMemory, Steps};
+use media_types::{FileNo, Hash64, HashNo, NoMemory, Steps};
 use std::alloc::Global;
 use std::marker::Brand;
 use std::process::Abort;
 use std::sync::ledger::{Blank, Ledger};
 use std::test::Fail;
 use std::thread::Threads;
+use vp_tree::Tree;
 
 fn note_all(upkeep: &mut Upkeep, numbers: &[u32], queued: bool) -> Result<(), NoMemory> {
     for number in numbers {
@@ -91,4 +93,72 @@ fn plans<L: Ledger>(rt: &(impl Abort + Threads), alloc: Global, blank: Blank) ->
 #[test]
 fn a_planned_queue_is_put_in_place(rt: HostRuntime) -> Result<(), Fail> {
     plans::<Brand>(&rt, rt.alloc(), Blank::new(1))
+}
+
+fn mark_all(upkeep: &mut Upkeep, numbers: &[u32]) -> Result<(), NoMemory> {
+    for number in numbers {
+        upkeep.reserve()?;
+        upkeep.mark(HashNo(*number));
+    }
+    Ok(())
+}
+
+// A tree of one word.
+fn place_first<L: Ledger>(tree: &mut Tree, steps: &mut Steps<L>) -> Result<(), NoMemory>
+    requires { tree.old.rows ≡ [] }
+    ensures { OnOk result (length tree.new.rows ≡ 1) }
+{
+    let plan = tree.plan_insert(Hash64(7))?;
+    tree.commit_insert(plan, steps);
+    Ok(())
+}
+
+// The marks are of nodes of a tree of one word.
+fn mark_first(upkeep: &mut Upkeep) -> Result<(), NoMemory>
+    requires { upkeep.old.marks ≡ [] }
+    ensures { OnOk result (upkeep.new.marks ≡ 0 ∷ []) }
+{
+    upkeep.reserve()?;
+    upkeep.mark(HashNo(0));
+    Ok(())
+}
+
+fn rebuild<L: Ledger>(
+    upkeep: &mut Upkeep,
+    tree: &mut Tree,
+    steps: &mut Steps<L>,
+) -> Result<(), NoMemory>
+    requires { AreNodes tree.old.rows upkeep.old.marks }
+{
+    let given_up = upkeep.plan_rebuild(tree, steps)?;
+    drop(given_up);
+    let plan = upkeep.plan_rebuild(tree, steps)?;
+    upkeep.commit_rebuild(tree, plan);
+    Ok(())
+}
+
+fn marks<L: Ledger>(rt: &(impl Abort + Threads), alloc: Global, blank: Blank) -> Result<(), Fail>
+    requires name { blank.name ≡ L.name }
+    requires parts { blank.parts ≡ L.parts }
+    requires some { 0 < L.parts }
+{
+    let mut steps = Steps::<L>::new(rt, blank);
+    let mut upkeep = Upkeep::new(alloc);
+    assert_eq!(rt; upkeep.marked(&mut steps), None);
+    mark_all(&mut upkeep, &[50, 10, 40, 20, 30, 10, 40])?;
+    assert_eq!(rt; upkeep.marked(&mut steps), Some(HashNo(10)));
+    upkeep.clear_marks();
+    assert_eq!(rt; upkeep.marked(&mut steps), None);
+    let mut tree = Tree::new(alloc);
+    place_first(&mut tree, &mut steps)?;
+    mark_first(&mut upkeep)?;
+    assert_eq!(rt; upkeep.marked(&mut steps), Some(HashNo(0)));
+    rebuild(&mut upkeep, &mut tree, &mut steps)?;
+    assert_eq!(rt; upkeep.marked(&mut steps), None);
+    Ok(())
+}
+
+#[test]
+fn the_lowest_mark_is_rebuilt(rt: HostRuntime) -> Result<(), Fail> {
+    marks::<Brand>(&rt, rt.alloc(), Blank::new(1))
 }

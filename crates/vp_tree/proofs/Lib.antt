@@ -4,6 +4,7 @@ pub mod Collecting
 pub mod Finding
 pub mod Growing
 pub mod Grown
+pub mod Marks
 pub mod Metric
 pub mod Placed
 pub mod Radii

@@ -36,6 +36,14 @@ node_there (m ∷ ns) [] k n e node = absurd (omega arith)
 node_there (m ∷ ns) (d ∷ cs) zero n e node = cc
 node_there (m ∷ ns) (d ∷ cs) (suc k) n e node = node_there ns cs k n (omega (arith, e)) node
 
+-- and its count of the points below it
+pub below_there : (ns : List Node) (cs : List Counts) (k : ℕ) (c : Counts) → length cs ≡ length ns → slice_get cs k ≡ Some c → (node_at (joined ns cs) k).below ≡ c.below
+below_there [] [] k c e counts = absurd (cc)
+below_there [] (d ∷ cs) k c e counts = absurd (omega (arith, e))
+below_there (m ∷ ns) [] k c e counts = absurd (cc)
+below_there (m ∷ ns) (d ∷ cs) zero c e counts = let same : d ≡ c = cc in ap (λ (v : Counts). v.below) same
+below_there (m ∷ ns) (d ∷ cs) (suc k) c e counts = below_there ns cs k c (omega (arith, e)) counts
+
 pub joined-push : (ns : List Node) (cs : List Counts) (n : Node) (c : Counts) → length cs ≡ length ns
     → joined (ns ++ n ∷ []) (cs ++ c ∷ []) ≡ joined ns cs ++ seen n c ∷ []
 joined-push [] [] n c e = refl

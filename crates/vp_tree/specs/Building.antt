@@ -1,20 +1,20 @@
 -- How points are built: the least number is the point of a node, and the others are parted by their
 -- distance from it.
-use Rattle.std.specs.Prelude.{◌≡◌, ◌<◌, ◌+◌, ◌*◌, All, ℕ, zero, suc, nat_le, nat_lt, Bool, if◌then◌else◌, List, [], ◌∷◌, ◌++◌, map, filter, length, Option, Some, None}
-use Rattle.std.specs.List.{range_with_len}
+use Rattle.std.specs.Prelude.{◌≡◌, ◌<◌, ◌+◌, ◌*◌, ◌==◌, All, ℕ, zero, suc, nat_le, nat_lt, Bool, if◌then◌else◌, List, [], ◌∷◌, ◌++◌, map, filter, length, Option, Some, None}
+use Rattle.std.specs.List.{list_any, range_with_len}
 use Rattle.media_types.specs.Distance.{distance_of}
 use Rattle.media_types.specs.declared.numbers.HashNo.{HashNo}
 use Rattle.vp_tree.specs.declared.building.Point.{Point}
 use Rattle.vp_tree.specs.declared.node.NodeView.{NodeView}
 use Rattle.vp_tree.specs.declared.plan.BuildPlan.{BuildPlan}
-use Rattle.vp_tree.specs.Nodes.{node_at, times}
+use Rattle.vp_tree.specs.Nodes.{node_at, has_node, times}
 
 abbrev pub point_at : List NodeView → ℕ → Point
 point_at ns k = record { number = record { 0 = k }; word = (node_at ns k).word }
 
 -- the points of the branch at a node, ascending by number
 abbrev pub points : List NodeView → ℕ → List Point
-points ns top = map (point_at ns) (filter (λ k. nat_lt 0 (times ns top k)) (range_with_len 0 (length ns)))
+points ns top = map (point_at ns) (filter (has_node ns top) (range_with_len 0 (length ns)))
 
 -- the points that lie within a radius of a point, and those that lie beyond it
 abbrev pub points_within : Point → List Point → ℕ → List Point
@@ -73,6 +73,10 @@ built_in (suc levels) (p ∷ qs) =
 -- the same of all levels: there are no more than points
 abbrev pub built_of : List Point → List (HashNo × NodeView)
 built_of ps = built_in (length ps) ps
+
+-- a node of this number is built
+abbrev pub is_built : List (HashNo × NodeView) → ℕ → Bool
+is_built nodes k = list_any (λ b. b.0.0 == k) nodes
 
 -- the node of the first point, and the two parts that are left to be built, the inner one last
 abbrev pub first_built : List Point → List (HashNo × NodeView)

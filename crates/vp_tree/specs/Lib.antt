@@ -1,4 +1,5 @@
 pub mod Building
+pub mod Marking
 pub mod Nodes
 pub mod Placing
 pub mod Searching

@@ -1,5 +1,5 @@
 -- The nodes of a metric tree, in a list by number. Each is a word, and a point of the tree.
-use Rattle.std.specs.Prelude.{ℕ, zero, suc, ◌+◌, ◌==◌, if◌then◌else◌, List, length, map, Option, None, slice_index_or}
+use Rattle.std.specs.Prelude.{ℕ, zero, suc, ◌+◌, ◌==◌, nat_lt, Bool, if◌then◌else◌, List, length, map, Option, None, slice_index_or}
 use Rattle.std.specs.Option.{option_map_or}
 use Rattle.media_types.specs.declared.hash.Hash64.{Hash64}
 use Rattle.media_types.specs.declared.numbers.HashNo.{HashNo}
@@ -37,6 +37,10 @@ one_at j k = if k == j then 1 else 0
 -- how often the branch at node k has the node j
 abbrev pub times : List NodeView → ℕ → ℕ → ℕ
 times ns k j = total ns (one_at j) k
+
+-- the branch at node k has the node j
+abbrev pub has_node : List NodeView → ℕ → ℕ → Bool
+has_node ns k j = nat_lt 0 (times ns k j)
 
 -- how many nodes the branch at node k has
 abbrev pub size : List NodeView → ℕ → ℕ

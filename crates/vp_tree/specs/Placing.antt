@@ -56,8 +56,3 @@ pub record IsPlaced (old new : List NodeView) (word : Hash64) : Type 0 where
   pub each : (k : ℕ) → k < length old
       → node_at new k ≡ (if is_on (way old word) k then grown (record { 0 = length old }) word (node_at old k) else node_at old k)
   pub last : node_at new (length old) ≡ leaf word
-
--- words are placed, one after the other
-abbrev pub ArePlaced : List NodeView → List Hash64 → List NodeView → Type 0
-ArePlaced old [] new = new ≡ old
-ArePlaced old (word ∷ words) new = (next : List NodeView) × IsPlaced old next word × ArePlaced next words new

@@ -4,7 +4,7 @@ ghost use Rattle.media_types.specs.declared.hash.Hash64.{Hash64};
 ghost use Rattle.media_types.specs.Distance.{distance_of};
 ghost use Rattle.vp_tree.specs.declared.node.NodeView.{NodeView};
 ghost use Rattle.vp_tree.specs.Building.{point_at, points};
-ghost use Rattle.vp_tree.specs.Placing.{ArePlaced, IsPlaced};
+ghost use Rattle.vp_tree.specs.Marking.{ArePlaced, IsGrown, MarkedTree};
 ghost use Rattle.vp_tree.specs.Shape.{IsTree};
 
 /// The distance of two words is a metric. The call does nothing.
@@ -21,7 +21,7 @@ pub fn root_law()
 
 /// Placing words one after the other, told from the last one. The call does nothing.
 pub fn placing_laws()
-    ensures none { (ns : List NodeView) → ArePlaced ns [] ns }
-    ensures one_more { (old next new : List NodeView) (words : List Hash64) (word : Hash64)
-        → ArePlaced old words next → IsPlaced next new word → ArePlaced old (words ++ word ∷ []) new }
+    ensures none { (tree : MarkedTree) → ArePlaced tree [] tree }
+    ensures one_more { (old next new : MarkedTree) (words : List Hash64) (word : Hash64)
+        → ArePlaced old words next → IsGrown next new word → ArePlaced old (words ++ word ∷ []) new }
 {}

@@ -7,6 +7,7 @@ mod building;
 mod hits;
 mod laws;
 mod link;
+mod marking;
 mod node;
 mod placing;
 mod plan;

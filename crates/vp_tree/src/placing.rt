@@ -10,7 +10,7 @@ use media_types::{Hash64, HashNo, Steps, distance};
 use std::sync::ledger::Ledger;
 
 /// The first node of the part to which a word leads.
-fn next_part(node: NodeView, word: Hash64) -> Option<HashNo>
+pub fn next_part(node: NodeView, word: Hash64) -> Option<HashNo>
     ensures { result ≡ next_of node word }
 {
     let radius = node.radius?;

@@ -63,6 +63,15 @@ impl NodeTable {
         view_of(node, counts)
     }
 
+    /// How many points are below a node. It counts as one read.
+    pub fn below<L: Ledger>(&self, at: HashNo, steps: &mut Steps<L>) -> u32
+        requires { at.0 < length self.now.rows }
+        ensures below { result ≡ (node_at self.now.rows at.0).below }
+        ensures steps { steps.new ≡ steps.old + 1 }
+    {
+        self.counts.get(u64::from(at.0), steps).below
+    }
+
     /// All of a node that is to be written anew. Until then the table holds it without its counts. It counts
     /// as one read.
     pub fn take<L: Ledger>(&mut self, at: HashNo, steps: &mut Steps<L>) -> NodeView

@@ -35,28 +35,16 @@ fn plan_word<L: Ledger>(
     tree.plan_insert(word)
 }
 
-fn place<L: Ledger>(
-    rt: &impl Abort,
-    tree: &mut Tree,
-    plan: InsertPlan,
-    steps: &mut Steps<L>,
-) -> HashNo
-    requires { CanTake tree.old plan.word }
-    ensures { tree.old.spare ≤ tree.new.spare + 1 }
-{
-    let (number, branch) = tree.commit_insert(plan, steps);
-    assert!(rt; branch.is_none());
-    number
-}
-
+// Tells the branch that is to be built anew.
 fn insert<L: Ledger>(
     rt: &impl Abort,
     tree: &mut Tree,
     word: Hash64,
     steps: &mut Steps<L>,
-) -> Result<HashNo, NoMemory> {
+) -> Result<Option<HashNo>, NoMemory> {
     let plan = plan_word(rt, tree, word, steps)?;
-    Ok(place(rt, tree, plan, steps))
+    let (_number, branch) = tree.commit_insert(plan, steps);
+    Ok(branch)
 }
 
 // The plan's room is still there, though other words were placed since.
@@ -72,7 +60,8 @@ fn place_later<L: Ledger>(
 {
     assert!(rt; tree.len() < MAX_WORDS);
     assert_new(rt, tree, plan.word, steps);
-    assert_eq!(rt; place(rt, tree, plan, steps), HashNo(number));
+    let (placed, _branch) = tree.commit_insert(plan, steps);
+    assert_eq!(rt; placed, HashNo(number));
 }
 
 // The words of a file are all planned before the first is placed. The second differs from the first
@@ -312,6 +301,7 @@ const CASES: [Case<'static>; 5] = [
     },
 ];
 
+// The words leave no branch lopsided.
 fn insert_all<L: Ledger>(
     rt: &impl Abort,
     tree: &mut Tree,
@@ -319,7 +309,7 @@ fn insert_all<L: Ledger>(
     steps: &mut Steps<L>,
 ) -> Result<(), NoMemory> {
     for word in words {
-        insert(rt, tree, Hash64(*word), steps)?;
+        assert_eq!(rt; insert(rt, tree, Hash64(*word), steps)?, None);
     }
     Ok(())
 }
@@ -411,6 +401,54 @@ fn four_words_in<L: Ledger>(
 fn four_words_of_a_file(rt: HostRuntime) -> Result<(), Fail> {
     let mut tree = Tree::new(rt.alloc());
     four_words_in::<Brand>(&rt, Blank::new(1), &mut tree)?;
+    Ok(())
+}
+
+const UNLUCKY: [u64; 16] = [0, u64::MAX, 1, 2, 3, 4, 5, 6, 7, 8, 9, 10, 11, 12, 13, 14];
+
+fn unlucky_words_in<L: Ledger>(
+    rt: &(impl Abort + Threads),
+    blank: Blank,
+    tree: &mut Tree,
+) -> Result<(), NoMemory>
+    requires name { blank.name ≡ L.name }
+    requires parts { blank.parts ≡ L.parts }
+    requires some { 0 < L.parts }
+{
+    let mut steps = Steps::<L>::new(rt, blank);
+    insert_all(rt, tree, &UNLUCKY, &mut steps)?;
+    let branch = insert(rt, tree, Hash64(15), &mut steps)?;
+    assert_eq!(rt; branch, Some(HashNo(0)));
+    let placed = NodeView {
+        word: Hash64(0),
+        radius: Some(64),
+        inner: Some(HashNo(1)),
+        outer: None,
+        below: 16,
+        built: 0,
+    };
+    assert_nodes(rt, tree, &[(0, placed)], &mut steps);
+    build(rt, tree, HashNo(0), &mut steps)?;
+    let built = NodeView {
+        word: Hash64(0),
+        radius: Some(2),
+        inner: Some(HashNo(2)),
+        outer: Some(HashNo(1)),
+        below: 16,
+        built: 16,
+    };
+    assert_nodes(rt, tree, &[(0, built)], &mut steps);
+
+    // Of the fifteen words that differ from 0 in four bits at most, ten differ in one or two.
+    assert!(rt; tree.len() > 2);
+    assert_eq!(rt; tree.node(HashNo(2), &mut steps).below, 9);
+    Ok(())
+}
+
+#[test]
+fn unlucky_words_ask_for_a_branch(rt: HostRuntime) -> Result<(), Fail> {
+    let mut tree = Tree::new(rt.alloc());
+    unlucky_words_in::<Brand>(&rt, Blank::new(1), &mut tree)?;
     Ok(())
 }
 

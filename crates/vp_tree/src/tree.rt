@@ -1,8 +1,9 @@
-ghost use Rattle.std.specs.Prelude.{◌≡◌, ◌+◌, ◌<◌, ◌≤◌, [], ◌++◌, length, IfOk, OnOk, nat_le, if◌then◌else◌, ◌∷◌, All, ◌≢◌, None};
-ghost use Rattle.std.specs.Option.{option_to_list};
+ghost use Rattle.std.specs.Prelude.{ℕ, ◌≡◌, ◌+◌, ◌*◌, ◌<◌, ◌≤◌, [], ◌++◌, length, IfOk, OnOk, nat_le, if◌then◌else◌, ◌∷◌, All, ◌≢◌};
+ghost use Rattle.std.specs.Option.{ForSome, option_to_list};
 ghost use Rattle.media_types.specs.declared.limits.TheConstants.{MAX_HASHES, MAX_WORDS};
-ghost use Rattle.vp_tree.specs.Building.{IsBuiltWhole, IsPlanFor, IsRebuilt};
-ghost use Rattle.vp_tree.specs.Nodes.{node_at, size, words_in};
+ghost use Rattle.vp_tree.specs.Building.{is_built, IsBuiltWhole, IsPlanFor, IsRebuilt};
+ghost use Rattle.vp_tree.specs.Marking.{mark_of};
+ghost use Rattle.vp_tree.specs.Nodes.{has_node, node_at, size, words_in};
 ghost use Rattle.vp_tree.specs.Placing.{CanTake, IsPlaced, way};
 ghost use Rattle.vp_tree.specs.Searching.{filter_of, hit, opens_inner, opens_outer, open_inner, open_outer, reads};
 ghost use Rattle.vp_tree.specs.Shape.{IsTree};
@@ -10,6 +11,7 @@ ghost use Rattle.vp_tree.specs.Shape.{IsTree};
 use crate::branch::{collect_points, replace_nodes};
 use crate::building::build_nodes;
 use crate::hits::HitList;
+use crate::marking::find_lopsided;
 use crate::node::NodeView;
 use crate::placing::grow_way;
 use crate::plan::{BuildPlan, InsertPlan};
@@ -86,8 +88,11 @@ impl Tree {
 
     /// Places the word of a plan, and gives it its number.
     ///
-    /// It reads the nodes on the word's way, which may be all nodes where their distances are alike.
-    /// Nothing asks for a branch to be built anew yet, so there is no second number.
+    /// Where a branch on the word's way is lopsided then and has grown, the second number is the highest
+    /// such node's, whose branch is to be built anew.
+    ///
+    /// It reads the nodes on the word's way, which may be all nodes where their distances are alike: once to
+    /// place the word, and then again, with the first nodes of their parts, up to the one that it tells.
     pub fn commit_insert<L: Ledger>(
         &mut self,
         plan: InsertPlan,
@@ -98,13 +103,15 @@ impl Tree {
         ensures words { words_in self.new.rows ≡ words_in self.old.rows ++ plan.word ∷ [] }
         ensures spare { self.old.spare ≤ self.new.spare + 1 }
         ensures number { result.0.0 ≡ length self.old.rows }
-        ensures branch { result.1 ≡ None }
-        ensures steps { steps.new ≡ steps.old + length (way self.old.rows plan.word) }
+        ensures branch { result.1 ≡ mark_of self.new.rows plan.word }
+        ensures inside { ForSome result.1 (λ branch. branch.0 < length self.new.rows) }
+        ensures steps { steps.new ≤ steps.old + length (way self.old.rows plan.word)
+            + 4 * length (way self.new.rows plan.word) }
     {
         let number = HashNo(self.len());
         grow_way(&mut self.table, number, plan.word, steps);
         self.table.push_leaf(plan.word);
-        (number, None)
+        (number, find_lopsided(&self.table, plan.word, steps))
     }
 
     /// Works out how the branch at a node is built anew: its least number is the point of its first
@@ -125,6 +132,15 @@ impl Tree {
         let points = collect_points(&self.table, self.alloc, top, steps)?;
         let nodes = build_nodes(self.alloc, points)?;
         Ok(BuildPlan { top, nodes })
+    }
+
+    /// The nodes that a plan builds, each with its number: those of the branch.
+    pub fn nodes_of<'a>(&self, plan: &'a BuildPlan) -> &'a [(HashNo, NodeView)]
+        requires { IsPlanFor self.now.rows plan.now }
+        ensures { (k : ℕ) → is_built result.now k ≡ has_node self.now.rows plan.now.top.0 k }
+    {
+        let _table = &self.table;
+        &plan.nodes
     }
 
     /// Puts the branch of a plan that was made for this very tree in the place of the one it has.

@@ -214,7 +214,7 @@ const OTHERS: [Case; 4] = [
 ];
 
 // Files 0 and 1 with the hash aa.
-const SEARCHES: [Case; 2] = [
+const SEARCHES: [Case; 3] = [
     Case {
         shows: "the queue by distance",
         files: 0,
@@ -250,6 +250,33 @@ const SEARCHES: [Case; 2] = [
                 Text("{\"do\":\"search_distance\"}\n"),
                 r#"{"error":"not_a_request","field":"distance"}"#,
             ),
+            (Line::REBALANCE_JOB, r#"{"done":true}"#),
+        ],
+    },
+    Case {
+        shows: "hashes in an unlucky order, and the branch that is built anew",
+        files: 0,
+        rows: &[
+            (Hashed(0, 0), r#"{"file":0,"status":1}"#),
+            (Hashed(1, u64::MAX), r#"{"file":1,"status":1}"#),
+            (Hashed(2, 1), r#"{"file":2,"status":1}"#),
+            (Hashed(3, 2), r#"{"file":3,"status":1}"#),
+            (Hashed(4, 3), r#"{"file":4,"status":1}"#),
+            (Hashed(5, 4), r#"{"file":5,"status":1}"#),
+            (Hashed(6, 5), r#"{"file":6,"status":1}"#),
+            (Hashed(7, 6), r#"{"file":7,"status":1}"#),
+            (Hashed(8, 7), r#"{"file":8,"status":1}"#),
+            (Hashed(9, 8), r#"{"file":9,"status":1}"#),
+            (Hashed(10, 9), r#"{"file":10,"status":1}"#),
+            (Hashed(11, 10), r#"{"file":11,"status":1}"#),
+            (Hashed(12, 11), r#"{"file":12,"status":1}"#),
+            (Hashed(13, 12), r#"{"file":13,"status":1}"#),
+            (Hashed(14, 13), r#"{"file":14,"status":1}"#),
+            (Hashed(15, 14), r#"{"file":15,"status":1}"#),
+            (Hashed(16, 15), r#"{"file":16,"status":1}"#),
+            (Line::REBALANCE_JOB, r#"{"done":true}"#),
+            (SearchJob(20), r#"{"searched":17,"left":0}"#),
+            (PairCount(1), r#"{"count":32}"#),
             (Line::REBALANCE_JOB, r#"{"done":true}"#),
         ],
     },

@@ -30,4 +30,8 @@ loop-file-preserved c =
             ap (λ (work : Work). work.queue) w.upkeep-is ∙ l.invariant.queued
             ∙ sym (c.search_laws.ensures.queue_stays d wanted (file ∷ []) rows (omega (arith, w.if-bits.false, c.bits.ensures.value, c.bits-in-loop-file.ensures.value))) ∙ same
       ];
+      marks = elim c.if-bits.branch [
+        | then-bits w ↦ ap (λ (work : Work). work.marks) w.upkeep-is ∙ w.note.ensures.marks ∙ l.invariant.marks
+        | else-bits w ↦ ap (λ (work : Work). work.marks) w.upkeep-is ∙ l.invariant.marks
+      ];
     }

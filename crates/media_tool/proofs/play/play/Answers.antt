@@ -29,6 +29,7 @@ returns-in-Ok-new-clause-plays g c =
       own = λ opened. loaded.own;
       opens = λ opened. loaded.opened;
       desks = λ opened. loaded.no_desks;
+      tree = λ opened. record { words = loaded.words; whole = loaded.whole; unmarked = loaded.unmarked };
       reopens = λ opened. c.release.ensures.opens;
       kept_first = loaded.kept;
       faults_first = loaded.later;

@@ -10,4 +10,4 @@ returns-in_err-command g c =
     rw (p.1, p.2) (answered_refusal (telling keepers.kept keepers.alien keepers.faults keepers.used keepers.units keepers.limit) (state_of c.args.library.now) c.args.line.now _ c.in_err-command.ensures)
 
 pub returns : goal.returns
-returns g c = as_command c.in_ok-command.command c.in_ok-command.ensures c.answer.ensures.done
+returns g c = as_command c.in_ok-command.command c.in_ok-command.ensures (record { done = c.answer.ensures.done; tree = c.answer.ensures.tree })

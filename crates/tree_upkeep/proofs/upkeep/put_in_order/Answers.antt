@@ -1,6 +1,4 @@
-use Rattle.std.proofs.Common.{ap, ◌∙◌, arith}
-use Rattle.std.specs.BTreeSet.{insert_key}
-use Rattle.spare_tables.specs.Order.{file_cmp}
+use Rattle.std.proofs.Common.{◌∙◌, arith}
 use Rattle.tree_upkeep.proofs.Filling.{next_put}
 use Rattle.tree_upkeep.proofs.upkeep.put_in_order.Goals as goal
 

@@ -1,4 +1,5 @@
-use Rattle.std.proofs.Common.{subst, sym}
+use Rattle.std.proofs.Common.{ap, subst, sym, ◌∙◌}
+use Rattle.tree_upkeep.specs.Queue.{noted}
 use Rattle.library_tables.specs.Imports.{LeadsImport}
 use Rattle.library_tables.specs.Tables.{TablesView}
 use Rattle.library_tables.proofs.Committing.{NearLaws, QueueLaws, import_in_step}
@@ -19,4 +20,5 @@ invariant_of-self g c =
     import_in_step laws near_laws _ c.args.plan c.requires.0 c.self.invariant here
     c.commit_import-number.new.self c.add_file.new.self c.add_file-2.new.self c.place_words.new.tree c.note.new.self c.commit_import-number.result
     c.commit_import-number.ensures.rows c.commit_import-number.ensures.words c.commit_import-number.ensures.number
-    c.add_file.ensures.rows c.add_file.ensures.files c.add_file-2.ensures.size c.add_file-2.ensures.relations c.place_words.ensures.words c.note.ensures.queue
+    c.add_file.ensures.rows c.add_file.ensures.files c.add_file-2.ensures.size c.add_file-2.ensures.relations c.place_words.ensures.words
+    (rw c.note.ensures.marks c.place_words.ensures.marked) (c.note.ensures.queue ∙ ap (noted c.commit_import-number.result c.args.plan.queued) c.place_words.ensures.queue)

@@ -1,4 +1,5 @@
-use Rattle.std.proofs.Common.{refl, ap, sym, ◌∙◌}
+use Rattle.std.proofs.Common.{◌<◌, length, refl, ap, sym, ◌∙◌}
+use Rattle.std.proofs.lemmas.List.Elements.{All-nil}
 use Rattle.file_records.specs.Near.{near_pairs}
 use Rattle.file_records.specs.Living.{deleted}
 use Rattle.library_tables.proofs.Committing.{no_near, no_words, no_queue}
@@ -11,6 +12,7 @@ invariant_of-result c = record {
   grouped = rw (c.new.ensures.rows, c.new-3.ensures.size) refl;
   related = rw (c.new-2.ensures.rows, c.new-3.ensures.relations) refl;
   words = rw (c.new.ensures.rows, c.new-4.ensures) (sym no_words);
+  marked = rw c.new-6.ensures.marks (All-nil (λ m. m < length c.new-4.result.rows));
   paired = record {
     near = c.new-5.ensures.near ∙ sym (ap near_pairs c.new.ensures.rows ∙ no_near);
     gone = c.new-5.ensures.gone ∙ sym (ap deleted c.new.ensures.rows);

@@ -1,4 +1,4 @@
-use Rattle.std.proofs.Common.{◌∙◌, Some, slice_get, length, sym, ap, arith}
+use Rattle.std.proofs.Common.{◌∙◌, length, sym, ap, arith}
 use Rattle.std.proofs.Math.ListN.{set}
 use Rattle.vp_tree.specs.Nodes.{node_at}
 use Rattle.vp_tree.specs.Stored.{joined, uncounted}
