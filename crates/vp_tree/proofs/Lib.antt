@@ -4,7 +4,6 @@ pub mod Collecting
 pub mod Finding
 pub mod Growing
 pub mod Grown
-pub mod Metric
 pub mod Placed
 pub mod Radii
 pub mod Rebuilt

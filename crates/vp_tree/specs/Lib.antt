@@ -1,6 +1,7 @@
 pub mod Building
 pub mod Nodes
 pub mod Placing
+pub mod PlacingLaws
 pub mod Searching
 pub mod Shape
 pub mod Spared

@@ -1,4 +1,4 @@
--- The number of differing bits is a metric.
+-- The number of differing bits is a metric: it is 0 for equal words alone, symmetric, and no way round is shorter.
 use Rattle.std.proofs.Common.{◌≡◌, ◌∙◌, ℕ, zero, suc, ◌+◌, ◌/◌, ◌%◌, ◌≤◌, sym, ap, arith}
 use Rattle.std.specs.Prelude.{bit_xor, count_ones}
 use Rattle.std.proofs.lemmas.Nat.{zero_from_ones, ones_le_self, xor_shr, xor_comm}
