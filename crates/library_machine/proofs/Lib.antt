@@ -1,6 +1,3 @@
-pub mod Below
-pub mod Meeting
-pub mod Good
 pub mod Sound
 pub mod Causes
 pub mod TakingBack

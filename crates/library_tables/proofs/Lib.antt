@@ -2,6 +2,7 @@ pub mod Committing
 pub mod Deciding
 pub mod Importing
 pub mod PotentialPairs
+pub mod Marking
 pub mod Placing
 pub mod Queueing
 pub mod Refolding

@@ -70,7 +70,6 @@ impl Tables {
         ensures records { records_of result ≡ no_records }
         ensures tree { result.tree.rows ≡ [] }
     {
-        library_machine::records_stay_fit();
         Tables {
             alloc,
             files: Files::new(alloc),

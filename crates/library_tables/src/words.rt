@@ -41,7 +41,6 @@ pub fn place_words<L: Ledger>(tree: &mut Tree, plans: Vec<InsertPlan>, steps: &m
     ensures words { words_in tree.new.rows ≡ words_in tree.old.rows ++ words_planned plans.items }
     ensures steps { words_planned plans.items ≡ [] → steps.new ≡ steps.old }
 {
-    vp_tree::placing_laws();
     for plan in plans {
         let (_number, _marked) = tree.commit_insert(plan, steps);
     }

@@ -1,4 +1,1 @@
-pub mod Ends
 pub mod Filling
-pub mod Members
-pub mod Places
