@@ -1,2 +1,3 @@
+pub mod DecisionLaws
 pub mod Recorded
 pub mod Standing

@@ -1,32 +1,12 @@
--- The least of distances, and that the distance of two files doesn't depend on their order.
-use Rattle.std.proofs.Common.{◌≡◌, ℕ, ◌+◌, ◌<◌, min, count_ones, List, [], ◌∷◌, ◌++◌, length, take, get_or, map, Option, Some, None, refl, ap, sym, ◌∙◌, arith}
+-- Distances that are worked out one after the other.
+use Rattle.std.proofs.Common.{◌≡◌, ℕ, ◌+◌, ◌<◌, List, [], ◌∷◌, ◌++◌, length, take, get_or, map, Option, Some, ap, sym, ◌∙◌}
 use Rattle.std.proofs.lemmas.List.{append-nil, take_more, map_more}
 use Rattle.std.proofs.lemmas.List.Concat.{flat_map-append}
-use Rattle.std.proofs.lemmas.Nat.{xor_comm}
 use Rattle.media_types.specs.Distance.{distance_of}
 use Rattle.media_types.specs.declared.hash.Hash64.{Hash64}
 use Rattle.media_types.specs.Least.{least}
 use Rattle.file_records.specs.Distances.{nearer, distances, least_distance}
-
--- ---- the lesser of two distances, in any order
-min_assoc : (a b c : ℕ) → min (min a b) c ≡ min a (min b c)
-min_assoc a b c = omega arith
-
-nearer_assoc : (a b c : Option ℕ) → nearer (nearer a b) c ≡ nearer a (nearer b c)
-nearer_assoc None b c = refl
-nearer_assoc (Some a) None c = refl
-nearer_assoc (Some a) (Some b) None = refl
-nearer_assoc (Some a) (Some b) (Some c) = ap Some (min_assoc a b c)
-
-nearer_comm : (a b : Option ℕ) → nearer a b ≡ nearer b a
-nearer_comm None None = refl
-nearer_comm None (Some b) = refl
-nearer_comm (Some a) None = refl
-nearer_comm (Some a) (Some b) = ap Some (omega arith)
-
-pub least-append : (xs ys : List ℕ) → least (xs ++ ys) ≡ nearer (least xs) (least ys)
-least-append [] ys = refl
-least-append (x ∷ xs) ys = ap (nearer (Some x)) (least-append xs ys) ∙ sym (nearer_assoc (Some x) (least xs) (least ys))
+use Rattle.file_records.specs.DistanceLaws.{least-append}
 
 -- ---- one more distance
 pub least_more : (distance : Hash64 → ℕ) (hashes : List Hash64) (i : ℕ) (d : Hash64) (old new : Option ℕ) → i < length hashes →
@@ -44,30 +24,3 @@ distance_more xs ys i d old new within so_far now =
     ∙ ap least (flat_map-append (λ h. map (distance_of h) ys) (take i xs) (x ∷ []))
     ∙ ap (λ ns. least (distances (take i xs) ys ++ ns)) (append-nil (map (distance_of x) ys))
     ∙ least-append (distances (take i xs) ys) (map (distance_of x) ys))
-
--- ---- the distance of two files, in either order
-turned : (x y : Hash64) → distance_of x y ≡ distance_of y x
-turned x y = ap count_ones (xor_comm x.0 y.0)
-
-swap : (a b c : Option ℕ) → nearer a (nearer b c) ≡ nearer b (nearer a c)
-swap a b c = sym (nearer_assoc a b c) ∙ ap (λ n. nearer n c) (nearer_comm a b) ∙ nearer_assoc b a c
-
--- of the first hash of the one, and of the others
-split : (y : Hash64) (xs ys : List Hash64) → least_distance xs (y ∷ ys) ≡ nearer (least (map (distance_of y) xs)) (least_distance xs ys)
-split y [] ys = refl
-split y (x ∷ xs) ys =
-    let d = distance_of x y in
-    let rest = least (map (distance_of y) xs) in
-    ap (nearer (Some d)) (least-append (map (distance_of x) ys) (distances xs (y ∷ ys)) ∙ ap (nearer (least (map (distance_of x) ys))) (split y xs ys))
-    ∙ ap (nearer (Some d)) (swap (least (map (distance_of x) ys)) rest (least_distance xs ys))
-    ∙ sym (nearer_assoc (Some d) rest (nearer (least (map (distance_of x) ys)) (least_distance xs ys)))
-    ∙ ap (λ n. nearer (nearer (Some n) rest) (nearer (least (map (distance_of x) ys)) (least_distance xs ys))) (turned x y)
-    ∙ ap (nearer (nearer (Some (distance_of y x)) rest)) (sym (least-append (map (distance_of x) ys) (distances xs ys)))
-
-nothing : (xs : List Hash64) → least_distance xs [] ≡ None
-nothing [] = refl
-nothing (x ∷ xs) = nothing xs
-
-pub symmetric : (xs ys : List Hash64) → least_distance xs ys ≡ least_distance ys xs
-symmetric xs [] = nothing xs
-symmetric xs (y ∷ ys) = split y xs ys ∙ ap (nearer (least (map (distance_of y) xs))) (symmetric xs ys) ∙ sym (least-append (map (distance_of y) xs) (distances ys xs))

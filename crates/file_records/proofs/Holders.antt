@@ -8,8 +8,8 @@ use Rattle.media_types.specs.declared.hash.Hash64.{Hash64}
 use Rattle.file_records.specs.declared.file_row.FileRow.{FileRow}
 use Rattle.file_records.specs.Indexing.{AreHeld}
 use Rattle.file_records.specs.Words.{new_words, words_of, has_number, has_hash}
-use Rattle.file_records.proofs.Words.{words_of_more}
-use Rattle.file_records.proofs.Numbers.{all_among, has_number_kept}
+use Rattle.file_records.specs.WordLaws.{words_of_more}
+use Rattle.file_records.specs.NumberLaws.{all_among, has_number_kept}
 
 -- ---- the hashes of the files before, of the last, and of none
 before_stays : (file : FileRow) (files : List FileRow) (h k : ℕ) → k < length files → has_hash h (files ++ file ∷ []) k ≡ has_hash h files k

@@ -1,13 +1,9 @@
-pub mod Ascending
 pub mod Distances
-pub mod Held
 pub mod Holders
 pub mod Listed
 pub mod Lookups
 pub mod Marks
-pub mod Near
 pub mod Nexts
-pub mod Numbers
 pub mod Planning
 pub mod Queues
 pub mod Rising

@@ -1,15 +1,13 @@
--- The look-up of a file by its SHA-256, in the rows and in their index.
-use Rattle.std.proofs.Common.{◌≡◌, ◌≢◌, ◌≤◌, ◌<◌, ◌+◌, ℕ, Bool, true, false, cond, not, nat_lt, Option, Some, None, List, [], ◌∷◌, ◌++◌, length, map, slice_get, length-append, Contains, if◌then◌else◌, refl, ap, sym, ◌∙◌, arith}
+-- The look-up of a file by its SHA-256, in the index of the rows.
+use Rattle.std.proofs.Common.{◌≡◌, ◌≤◌, ◌<◌, ◌+◌, ℕ, Bool, true, false, cond, not, Option, Some, List, [], ◌∷◌, ◌++◌, length, map, slice_get, length-append, Contains, if◌then◌else◌, refl, ap, sym, ◌∙◌, arith}
 use Rattle.std.specs.Bool.{Decides}
 use Rattle.std.specs.List.{position, position_or_len, list_any}
 use Rattle.std.specs.Option.{option_map}
 use Rattle.std.specs.Str.{bytes_eq}
-use Rattle.std.proofs.lemmas.Bool.{ltb-true, ltb-false, both_ways}
 use Rattle.std.proofs.lemmas.Bool.Decides.{same_from_decides}
 use Rattle.std.proofs.lemmas.List.{length-map, map-append, get_or-map}
 use Rattle.std.proofs.lemmas.List.Elements.{All-nil, All-push}
-use Rattle.std.proofs.lemmas.List.Quantifiers.{position-Some, all_pairs_push}
-use Rattle.std.proofs.lemmas.List.Sums.{fails_before_first, passes_at_first}
+use Rattle.std.proofs.lemmas.List.Quantifiers.{position-Some}
 use Rattle.std.proofs.lemmas.Option.{slice_get-get_or}
 use Rattle.std.proofs.lemmas.Slice.Eq.{bytes_eq-Decides}
 use Rattle.indexmap.specs.IndexSet.{insert_key}
@@ -19,22 +17,12 @@ use Rattle.media_types.specs.declared.limits.TheConstants.{MAX_FILES, MAX_HASHES
 use Rattle.media_types.specs.contracts.hash.ShaPartialEq.TheImpl.{eq-value}
 use Rattle.file_records.specs.declared.file_row.FileRow.{FileRow}
 use Rattle.file_records.specs.Indexing.{IsSound}
-use Rattle.file_records.specs.Lookup.{file_with, IsUnknown, AreDistinct}
+use Rattle.file_records.specs.Lookup.{file_with, IsUnknown}
+use Rattle.file_records.specs.LookupLaws.{distinct_with, has_sha, same_sha}
 
 -- the SHA-256 of each file, in order
 abbrev pub shas_of : List FileRow → List Sha
 shas_of files = map (λ file. file.sha) files
-
--- the test of a file by its SHA-256
-abbrev has_sha : Sha → FileRow → Bool
-has_sha sha file = bytes_eq file.sha.0 sha.0
-
--- ---- `==` decides equality, whichever value stands first
-same_sha : (a b : Sha) → bytes_eq a.0 b.0 ≡ true → a ≡ b
-same_sha a b e = ap (λ (bytes : List ℕ). record { 0 = bytes }) ((bytes_eq-Decides a.0 b.0).0 e)
-
-other_sha : (a b : Sha) → bytes_eq a.0 b.0 ≡ false → a ≢ b
-other_sha a b e same = both_ways _ e ((bytes_eq-Decides a.0 b.0).1 (ap (λ (s : Sha). s.0) same))
 
 sha_decides : (a b : Sha) → Decides (eq-value.it a b) (a ≡ b)
 sha_decides a b = (same_sha a b, λ same. (bytes_eq-Decides a.0 b.0).1 (ap (λ (s : Sha). s.0) same))
@@ -66,32 +54,6 @@ pub place_seen : (sha : Sha) (keys : List Sha) (rows seen : List FileRow) (found
 place_seen sha keys rows seen found indexed same e =
     e ∙ ap (position (eq-value.it sha)) indexed ∙ place_in_index sha rows ∙ ap (file_with sha) same
 
--- ---- a file is found exactly where one has the SHA-256
--- a position is none only where the first that passes is behind the end
-at_end : (t : FileRow → Bool) (files : List FileRow) (found : Bool) →
-    nat_lt (position_or_len t files) (length files) ≡ found → position t files ≡ None → length files ≤ position_or_len t files
-at_end t files true is none = let some = rw is at none in cc
-at_end t files false is none = ltb-false _ _ is
-
--- and there it is none
-none_at_end : (t : FileRow → Bool) (files : List FileRow) (found : Bool) →
-    nat_lt (position_or_len t files) (length files) ≡ found → (found ≡ true → ⊥) → position t files ≡ None
-none_at_end t files true is never = absurd (never refl)
-none_at_end t files false is never = rw is
-
-pub unknown_is_not_found : (sha : Sha) (files : List FileRow) → IsUnknown sha files → file_with sha files ≡ None
-unknown_is_not_found sha [] unknown = refl
-unknown_is_not_found sha (first ∷ files) unknown =
-    let all = first ∷ files in
-    none_at_end (has_sha sha) all _ refl (λ found.
-    let lt = ltb-true _ _ found in
-    unknown (position_or_len (has_sha sha) all) first lt (same_sha _ _ (passes_at_first (has_sha sha) all first lt)))
-
-pub not_found_is_unknown : (sha : Sha) (files : List FileRow) → file_with sha files ≡ None → IsUnknown sha files
-not_found_is_unknown sha files none k d lt =
-    let end = at_end (has_sha sha) files _ refl none in
-    other_sha _ _ (fails_before_first (has_sha sha) files k d (omega arith))
-
 -- what is found has the SHA-256
 pub found_has_sha : (sha : Sha) (files : List FileRow) (at : ℕ) → file_with sha files ≡ Some at → option_map (λ file. file.sha) (slice_get files at) ≡ Some sha
 found_has_sha sha [] at e = absurd (cc)
@@ -114,9 +76,6 @@ index_with file files unknown = by (list_any (eq-value.it file.sha) (shas_of fil
     by : (b : Bool) → list_any (eq-value.it file.sha) (shas_of files) ≡ b → insert_key eq-value.it (shas_of files) file.sha ≡ shas_of (files ++ file ∷ [])
     by true e = absurd (no_key file.sha files unknown (Contains-list_any eq-value.it (λ x y. (sha_decides x y).0) (shas_of files) file.sha e))
     by false e = ap (λ b. if b then shas_of files else shas_of files ++ file.sha ∷ []) e ∙ sym (map-append (λ f. f.sha) files (file ∷ []))
-
-pub distinct_with : (file : FileRow) (files : List FileRow) → AreDistinct files → IsUnknown file.sha files → AreDistinct (files ++ file ∷ [])
-distinct_with file files distinct unknown = all_pairs_push (λ a b. a.sha ≢ b.sha) files file distinct unknown
 
 pub index_of_pushed : (keys after : List Sha) (files : List FileRow) (file : FileRow) →
     IsSound keys files → IsUnknown file.sha files → length files < MAX_FILES → length file.hashes ≤ MAX_HASHES →

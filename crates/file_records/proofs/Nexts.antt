@@ -11,7 +11,7 @@ use Rattle.spare_tables.specs.Pairs.{IsLeastSecondFrom}
 use Rattle.file_records.specs.declared.file_row.FileRow.{FileRow}
 use Rattle.file_records.specs.Indexing.{AreHeld}
 use Rattle.file_records.specs.Words.{words_of, has_number, has_hash, next_with}
-use Rattle.file_records.proofs.Ascending.{file_of}
+use Rattle.file_records.specs.AscendingLaws.{file_of}
 use Rattle.file_records.proofs.Listed.{first_is, first_is_none}
 
 -- ---- the next file

@@ -9,7 +9,7 @@ use Rattle.file_records.specs.Importing.{IsPlannedFor}
 use Rattle.file_records.specs.Lookup.{IsUnknown}
 use Rattle.file_records.specs.Rows.{row_of}
 use Rattle.file_records.specs.Words.{new_words, words_of}
-use Rattle.file_records.proofs.Words.{words_are_distinct, distinct_with_new, few_words, few_new_words}
+use Rattle.file_records.specs.WordLaws.{words_are_distinct, distinct_with_new, few_words, few_new_words}
 
 pub planned : (file : NewFile) (files : List FileRow) (words : List Hash64) (spare : ℕ) →
     All (λ f. length f.hashes ≤ MAX_HASHES) files → IsUnknown file.sha files → length files < MAX_FILES → length file.hashes ≤ MAX_HASHES →

@@ -7,7 +7,6 @@ use Rattle.std.proofs.lemmas.Bool.{false≢true, not-true, not-false, both_ways,
 use Rattle.std.proofs.lemmas.List.{get_or-take, get_or_default, length-take, take_all, take_more}
 use Rattle.std.proofs.lemmas.List.Elements.{All-weaker, filter_agree, filter_passes}
 use Rattle.std.proofs.lemmas.List.Folds.{list_any_at, list_any-append, Any-from_list_any}
-use Rattle.std.proofs.lemmas.List.Kept.{AllPairs-filter}
 use Rattle.std.proofs.lemmas.List.Quantifiers.{all_pairs_push}
 use Rattle.std.proofs.lemmas.List.Sorted.{list_any-IsPermutation}
 use Rattle.std.proofs.lemmas.Option.{get_or_from_slice_get, slice_get_within, slice_get-get_or}
@@ -16,17 +15,12 @@ use Rattle.media_types.specs.declared.numbers.FileNo.{FileNo}
 use Rattle.media_types.specs.contracts.numbers.FileNoPartialEq.TheImpl.{eq-value}
 use Rattle.file_records.specs.declared.file_row.FileRow.{FileRow}
 use Rattle.file_records.specs.Searching.{is_named, is_short_of, passes, rising}
-use Rattle.file_records.proofs.Ascending.{Ascend, file_of, files_ascend, filter_none, same_ascending}
-use Rattle.file_records.proofs.Searches.{named_in_rising}
+use Rattle.file_records.specs.AscendingLaws.{Ascend, file_of, filter_none, same_ascending}
+use Rattle.file_records.specs.SearchLaws.{named_in_rising, rising_ascends}
 
 -- the test of a file that was not searched far enough
 abbrev short_at : ℕ → List FileRow → ℕ → Bool
 short_at d rows k = passes (is_short_of d) rows k
-
-rising_ascends : (d : ℕ) (named : List FileNo) (rows : List FileRow) → Ascend (rising d named rows)
-unfolding rising
-rising_ascends d named rows =
-    AllPairs-filter (λ a b. a.0 < b.0) (λ f. is_named named f.0 && short_at d rows f.0) (files (length rows)) (files_ascend (length rows))
 
 -- it depends on the named files only by which of those that are short are named
 rising_same : (d : ℕ) (named also : List FileNo) (rows : List FileRow) →

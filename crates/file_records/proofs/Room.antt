@@ -13,8 +13,5 @@ room_for_one index rows words holders room = (omega arith, omega arith, omega ar
 pub room_made : (index rows words holders : ℕ) → 1 ≤ index → 1 ≤ rows → MAX_HASHES ≤ words → MAX_HASHES ≤ holders → 1 ≤ room_of index rows words holders
 room_made index rows words holders i r w h = omega arith
 
-pub room_grows : (i i' r r' w w' h h' : ℕ) → i ≤ i' → r ≤ r' → w ≤ w' → h ≤ h' → room_of i r w h ≤ room_of i' r' w' h'
-room_grows i i' r r' w w' h h' index rows words holders = omega arith
-
 pub room_taken : (i i' r r' w w' h h' : ℕ) → i ≤ i' + 1 → r ≤ r' + 1 → w ≤ w' + MAX_HASHES → h ≤ h' + MAX_HASHES → room_of i r w h ≤ room_of i' r' w' h' + 1
 room_taken i i' r r' w w' h h' index rows words holders = omega arith

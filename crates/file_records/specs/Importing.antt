@@ -8,13 +8,13 @@ use Rattle.file_records.specs.Lookup.{IsUnknown}
 use Rattle.file_records.specs.Words.{AreDistinctWords, new_words, words_of}
 
 -- what a contract sees of a planned import: the row, and those of its hashes that no file has yet
-pub record Planned : Type 0 where
+pub record PlannedFile : Type 0 where
   pub row : FileRow
   pub words : List Hash64
 
 -- There is room for the planned row, no file has its SHA-256, and the files are fewer than a library holds.
 -- Its new words are those that no file has, and with them the words are no more than a library holds.
-pub record IsPlannedFor (plan : Planned) (files : Table FileRow) : Type 0 where
+pub record IsPlannedFor (plan : PlannedFile) (files : Table FileRow) : Type 0 where
   pub room : 1 ≤ files.spare
   pub unknown : IsUnknown plan.row.sha files.rows
   pub few : length files.rows < MAX_FILES

@@ -10,7 +10,6 @@ ghost use Rattle.file_records.specs.Words.{new_words, next_with, number_of, word
 
 use crate::files::Files;
 use media_types::{FileNo, Hash64, HashList, HashNo, NoMemory, Steps, distance};
-use spare_tables::pair_laws;
 use std::sync::ledger::Ledger;
 
 /// The hashes of the files. Each distinct one has a number, from 0 in order of first import.
@@ -35,22 +34,28 @@ impl Files {
         ensures steps { steps.new ≡ steps.old + 1 }
     {
         let from = first_past(after);
-        pair_laws();
         match self.holders.range_from((hash.0, from), steps) {
             Some((found, file)) if found == hash.0 => Some(FileNo(file)),
             _ => None,
         }
     }
 
-    /// The distance of two files, 0 to 64: the least over their hashes. None where one of them has none.
-    pub fn file_distance(&self, f: FileNo, g: FileNo) -> Option<u32>
+    /// The distance of two files, 0 to 64: the least over their hashes. None where one of them has none. It
+    /// reads both rows.
+    pub fn file_distance<L: Ledger>(
+        &self,
+        f: FileNo,
+        g: FileNo,
+        steps: &mut Steps<L>,
+    ) -> Option<u32>
         requires f_known { f.0 < length self.now.rows }
         requires g_known { g.0 < length self.now.rows }
-        ensures { (a b : Row) → slice_get self.now.rows f.0 ≡ Some a → slice_get self.now.rows g.0 ≡ Some b
-            → result ≡ least_distance a.hashes b.hashes }
+        ensures distance { (a b : Row) → slice_get self.now.rows f.0 ≡ Some a
+            → slice_get self.now.rows g.0 ≡ Some b → result ≡ least_distance a.hashes b.hashes }
+        ensures steps { steps.new ≡ steps.old + 2 }
     {
-        let f = &self.rows[f.0 as usize];
-        let g = &self.rows[g.0 as usize];
+        let f = self.row(f, steps);
+        let g = self.row(g, steps);
         let mut least = None;
         for hash in f.hashes.as_slice() {
             least = nearer(least, distance_to(*hash, g.hashes.as_slice()));

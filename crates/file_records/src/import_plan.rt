@@ -12,9 +12,9 @@ pub struct ImportPlan {
 }
 
 impl Model for ImportPlan {
-    ghost use Rattle.file_records.specs.Importing.{Planned};
+    ghost use Rattle.file_records.specs.Importing.{PlannedFile};
 
-    ghost Value = { Planned };
+    ghost Value = { PlannedFile };
 
     ghost view = { λ plan. record { row = plan.row; words = plan.words } };
 }

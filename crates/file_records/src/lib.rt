@@ -6,15 +6,15 @@ mod file_row;
 mod files;
 mod hashes;
 mod import_plan;
+mod laws;
 mod living;
 mod searching;
-mod theorems;
 
 pub use file_row::FileRow;
 pub use files::Files;
 pub use import_plan::ImportPlan;
+pub use laws::{hash_laws, live_laws, lookup_laws, near_laws, search_laws};
 pub use media_types::NewFile;
-pub use theorems::{hash_laws, laws, live_laws, near_laws, search_laws};
 
 #[cfg(test)]
 mod tests;

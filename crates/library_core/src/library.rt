@@ -107,7 +107,6 @@ impl<K: Keeper> Library<K> {
             result self.old.tree self.new.tree }
         ensures reads { IsWithin (change_reads self.old.state.kept self.old.tree.nodes change.now) steps.old steps.new }
     {
-        library_machine::records_stay_fit();
         match self.tables.plan(change, steps)? {
             Prepared::Refused(why) => Err(Refusal::Unmet(why)),
             Prepared::Idle(answer) => Ok(answer),

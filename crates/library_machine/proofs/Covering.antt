@@ -21,11 +21,11 @@ use Rattle.file_records.specs.Searching.{is_queued, is_short_of, passes, queue_o
 use Rattle.relation_groups.specs.Relations.{Relations}
 use Rattle.potential_pairs.specs.Pages.{is_behind, named, page_of}
 use Rattle.potential_pairs.specs.Potential.{Row, is_between, is_live, least_between, may_pair, potential_at}
+use Rattle.spare_tables.specs.BelowLaws.{same_below}
 use Rattle.library_machine.specs.Asking.{answer, query_needs, related}
 use Rattle.library_machine.specs.Covering.{PairsCover, PagesCover, CountsCover}
 use Rattle.library_machine.specs.Step.{admitted, step, told}
-use Rattle.library_machine.proofs.Below.{SameRows, BelowSorted, BelowValue}
-use Rattle.library_machine.proofs.KeptPairs.{filter_below, kept, same_below}
+use Rattle.library_machine.proofs.KeptPairs.{filter_below, kept}
 use Rattle.library_machine.proofs.LeastWithin.{filter_map_of, is_within, least_within}
 
 -- ---- a live file with a hash was searched, where none waits
@@ -138,58 +138,57 @@ module _ (R : Relations) (rows : List FileRow) (w m : ℕ) (none : queue_of w ro
   near_counts f g None is lower there = refl
   near_counts f g (Some d) is lower there = if_both f g d _ refl lower there (have_hashes (hashes_at rows f) (hashes_at rows g) d is)
 
-  module _ (same_rows : SameRows) (sorted : BelowSorted) (value : BelowValue) where
-    abbrev all_pairs : List Row
-    all_pairs = pairs_below (length rows) (distance_at rows)
+  abbrev all_pairs : List Row
+  all_pairs = pairs_below (length rows) (distance_at rows)
 
-    filtered : (at : ℕ → ℕ → Option ℕ) → filter (is_within m) (filter counts (pairs_below (length rows) at)) ≡ pairs_below (length rows) (λ f g. counted f g (at f g))
-    filtered at =
-        ap (filter (is_within m)) (filter_below counts (length rows) at)
-        ∙ filter_below (is_within m) (length rows) (λ f g. kept counts f g (at f g))
+  filtered : (at : ℕ → ℕ → Option ℕ) → filter (is_within m) (filter counts (pairs_below (length rows) at)) ≡ pairs_below (length rows) (λ f g. counted f g (at f g))
+  filtered at =
+      ap (filter (is_within m)) (filter_below counts (length rows) at)
+      ∙ filter_below (is_within m) (length rows) (λ f g. kept counts f g (at f g))
 
-    same_counted : filter (is_within m) (filter counts (near_pairs rows)) ≡ filter (is_within m) (filter counts all_pairs)
-    unfolding near_at
-    same_counted =
-        filtered (near_at rows)
-        ∙ same_below same_rows sorted value (length rows) _ _ (λ f g lower there. near_counts f g (distance_at rows f g) refl lower there)
-        ∙ sym (filtered (distance_at rows))
+  same_counted : filter (is_within m) (filter counts (near_pairs rows)) ≡ filter (is_within m) (filter counts all_pairs)
+  unfolding near_at
+  same_counted =
+      filtered (near_at rows)
+      ∙ same_below (length rows) _ _ (λ f g lower there. near_counts f g (distance_at rows f g) refl lower there)
+      ∙ sym (filtered (distance_at rows))
 
-    least_of : (near : List Row) → kept (is_within m) j k (least_between R (deleted rows) near j k) ≡ least (map (λ row. row.1) (filter (is_within m) (filter counts near)))
-    least_of near =
-        least_within m j k (map (λ (row : Row). row.1) (filter counts near))
-        ∙ ap least (filter_map_of (λ n. nat_le n m) (λ (row : Row). row.1) (filter counts near))
+  least_of : (near : List Row) → kept (is_within m) j k (least_between R (deleted rows) near j k) ≡ least (map (λ row. row.1) (filter (is_within m) (filter counts near)))
+  least_of near =
+      least_within m j k (map (λ (row : Row). row.1) (filter counts near))
+      ∙ ap least (filter_map_of (λ n. nat_le n m) (λ (row : Row). row.1) (filter counts near))
 
-    same_least : kept (is_within m) j k (least_between R (deleted rows) (near_pairs rows) j k) ≡ kept (is_within m) j k (least_between R (deleted rows) all_pairs j k)
-    same_least =
-        least_of (near_pairs rows) ∙ ap (λ (near : List Row). least (map (λ row. row.1) near)) same_counted ∙ sym (least_of all_pairs)
+  same_least : kept (is_within m) j k (least_between R (deleted rows) (near_pairs rows) j k) ≡ kept (is_within m) j k (least_between R (deleted rows) all_pairs j k)
+  same_least =
+      least_of (near_pairs rows) ∙ ap (λ (near : List Row). least (map (λ row. row.1) near)) same_counted ∙ sym (least_of all_pairs)
 
-    same_by : (may : Bool) →
-        kept (is_within m) j k (if may then least_between R (deleted rows) (near_pairs rows) j k else None)
-        ≡ kept (is_within m) j k (if may then least_between R (deleted rows) all_pairs j k else None)
-    same_by true = same_least
-    same_by false = refl
+  same_by : (may : Bool) →
+      kept (is_within m) j k (if may then least_between R (deleted rows) (near_pairs rows) j k else None)
+      ≡ kept (is_within m) j k (if may then least_between R (deleted rows) all_pairs j k else None)
+  same_by true = same_least
+  same_by false = refl
 
-    same_potential : kept (is_within m) j k (potential_at R (deleted rows) (near_pairs rows) j k)
-        ≡ kept (is_within m) j k (potential_at R (deleted rows) all_pairs j k)
-    unfolding potential_at
-    same_potential = same_by (may_pair R j k)
+  same_potential : kept (is_within m) j k (potential_at R (deleted rows) (near_pairs rows) j k)
+      ≡ kept (is_within m) j k (potential_at R (deleted rows) all_pairs j k)
+  unfolding potential_at
+  same_potential = same_by (may_pair R j k)
 
-pub pairs_cover : SameRows → BelowSorted → BelowValue → PairsCover
-pairs_cover same_rows sorted value r m searched =
+pub pairs_cover : PairsCover
+pairs_cover r m searched =
     let n = length r.files in
     let gone = deleted r.files in
     let all : List Row = pairs_below n (distance_at r.files) in
     filter_below (is_within m) n (potential_at (related r) gone (near_pairs r.files))
-    ∙ same_below same_rows sorted value n _ _ (λ j k lower there.
-    same_potential (related r) r.files r.distance m searched.none_waits searched.reached j k same_rows sorted value)
+    ∙ same_below n _ _ (λ j k lower there.
+    same_potential (related r) r.files r.distance m searched.none_waits searched.reached j k)
     ∙ sym (filter_below (is_within m) n (potential_at (related r) gone all))
 
-pub pages_cover : PairsCover → PagesCover
+pub pages_cover : PagesCover
 unfolding step admitted query_needs answer page_of
-pages_cover cover s Console page searched =
-    ap (λ (pairs : List Row). told s.desks (answers.Pairs (map named (take page.n (filter (λ row. is_behind page.after row.0) pairs))))) (cover s.kept page.at_most searched)
+pages_cover s Console page searched =
+    ap (λ (pairs : List Row). told s.desks (answers.Pairs (map named (take page.n (filter (λ row. is_behind page.after row.0) pairs))))) (pairs_cover s.kept page.at_most searched)
 
-pub counts_cover : PairsCover → CountsCover
+pub counts_cover : CountsCover
 unfolding step admitted query_needs answer
-counts_cover cover s Console m searched =
-    ap (λ (pairs : List Row). told s.desks (answers.PairCount (length pairs))) (cover s.kept m searched)
+counts_cover s Console m searched =
+    ap (λ (pairs : List Row). told s.desks (answers.PairCount (length pairs))) (pairs_cover s.kept m searched)

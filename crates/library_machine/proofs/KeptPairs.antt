@@ -1,11 +1,9 @@
--- Rows of pairs below a number: which of them pass a test, and when two lists of them are the same.
+-- Rows of pairs below a number: which of them pass a test.
 use Rattle.std.proofs.Common.{◌≡◌, ◌<◌, ℕ, Bool, true, false, cond, if◌then◌else◌, nat_lt, Option, Some, None, List, [], ◌∷◌, refl, ap, sym, ◌∙◌}
 use Rattle.std.specs.List.{cons_option, filter, filter_map, flat_map, range_with_len}
 use Rattle.std.specs.Option.{option_map}
-use Rattle.std.proofs.lemmas.Bool.{ltb-true}
 use Rattle.std.proofs.lemmas.List.Elements.{filter-append}
 use Rattle.spare_tables.specs.Pairs.{pairs_below, value_below}
-use Rattle.library_machine.proofs.Below.{SameRows, BelowSorted, BelowValue}
 
 module _ {V : Type 0} (test : (ℕ × ℕ) × V → Bool) where
   -- the value of a pair, where its row passes the test
@@ -54,19 +52,3 @@ module _ {V : Type 0} (test : (ℕ × ℕ) × V → Bool) where
       filter test (pairs_below n value) ≡ pairs_below n (λ j k. kept j k (value j k))
   unfolding pairs_below
   filter_below n value = all_kept value (range_with_len 0 n) (range_with_len 0 n)
-
--- ---- the same pairs
-
-below_by : (n : ℕ) (u v : ℕ → ℕ → Option ℕ) (j k : ℕ) (there lower : Bool) → nat_lt k n ≡ there → nat_lt j k ≡ lower →
-    ((f g : ℕ) → f < g → g < n → u f g ≡ v f g) →
-    (if there then (if lower then u j k else None) else None) ≡ (if there then (if lower then v j k else None) else None)
-below_by n u v j k true true is_there is_lower same = same j k (ltb-true _ _ is_lower) (ltb-true _ _ is_there)
-below_by n u v j k true false is_there is_lower same = refl
-below_by n u v j k false lower is_there is_lower same = refl
-
--- rows of pairs whose values are the same are the same rows
-pub same_below : SameRows → BelowSorted → BelowValue → (n : ℕ) (u v : ℕ → ℕ → Option ℕ) →
-    ((f g : ℕ) → f < g → g < n → u f g ≡ v f g) → pairs_below n u ≡ pairs_below n v
-same_below same_rows sorted value n u v same =
-    same_rows (pairs_below n u) (pairs_below n v) (sorted n u) (sorted n v) (λ j k.
-    value n u j k ∙ below_by n u v j k (nat_lt k n) (nat_lt j k) refl refl same ∙ sym (value n v j k))

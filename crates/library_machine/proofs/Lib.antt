@@ -1,7 +1,3 @@
-pub mod Below
-pub mod Meeting
-pub mod Tagged
-pub mod Good
 pub mod Sound
 pub mod Causes
 pub mod TakingBack

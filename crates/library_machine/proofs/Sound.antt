@@ -14,10 +14,11 @@ use Rattle.library_machine.specs.Asking.{asked}
 use Rattle.library_machine.specs.Changing.{does, effect}
 use Rattle.library_machine.specs.Desks.{Desks}
 use Rattle.library_machine.specs.Jobs.{Deed, tells, makes, worked_out}
-use Rattle.library_machine.specs.Laws.{AnswersKeepFit, ChangesDiffer, ChangesKeepFit, StepsKeepFit, WantsChange}
+use Rattle.library_machine.specs.Laws.{AnswersKeepFit, StepsKeepFit, WantsChange}
 use Rattle.library_machine.specs.Opening.{after_change, if_made}
 use Rattle.library_machine.specs.Records.{Fits}
 use Rattle.library_machine.specs.Step.{State, Outcome, refused, told, changed, after, reply_of, change_of, by_change, by_answer, by_deed, step_of, admitted, by_caller, step, Answered, by_step, no_memory, journal_full, not_kept}
+use Rattle.library_machine.specs.GoodLaws.{changes_differ, changes_keep_fit}
 
 pub record IsSound (s : State) (o : Outcome) : Type 0 where
   pub told : (change_of o ≡ None) ↔ ((after s o).kept ≡ s.kept)
@@ -35,25 +36,25 @@ sound_answer : (s : State) (desks : Desks) (result : Result Answer Unmet) → Is
 sound_answer s desks (Ok answer) = same_records s _ refl refl
 sound_answer s desks (Err why) = same_records s _ refl refl
 
-module _ (keep_fit : ChangesKeepFit) (differ : ChangesDiffer) (s : State) (desks : Desks) where
+module _ (s : State) (desks : Desks) where
   sound_made : (c : Change) (done : Result Bool Unmet) → does s.kept c ≡ done → IsSound s (by_change s.kept desks c done)
   sound_made c (Err why) is = same_records s _ refl refl
   sound_made c (Ok true) is = same_records s _ refl refl
   sound_made c (Ok false) is = record {
-    told = (λ e. absurd (cc e), λ same. absurd (differ s.kept c is same));
+    told = (λ e. absurd (cc e), λ same. absurd (changes_differ s.kept c is same));
     leads = λ one e. subst (λ (d : Change). after_change s.kept d ≡ Some (effect s.kept c)) (same_Some _ _ e) (ap (if_made s.kept c) is);
-    fits = keep_fit s.kept c is;
+    fits = changes_keep_fit s.kept c is;
   }
 
   sound_deed : (deed : Deed) → IsSound s (by_deed s.kept desks deed)
   sound_deed (tells answer) = same_records s _ refl refl
   sound_deed (makes c) = sound_made c _ refl
 
-module _ (keep_fit : ChangesKeepFit) (differ : ChangesDiffer) (s : State) where
+module _ (s : State) where
   sound_step : (command : Command) → IsSound s (step_of s command)
   sound_step (commands.Ask q) = sound_answer s s.desks (asked s.kept q)
-  sound_step (commands.Do c) = sound_made keep_fit differ s s.desks c _ refl
-  sound_step (commands.Run j) = sound_deed keep_fit differ s s.desks (worked_out s.kept j)
+  sound_step (commands.Do c) = sound_made s s.desks c _ refl
+  sound_step (commands.Run j) = sound_deed s s.desks (worked_out s.kept j)
   sound_step (commands.Tend u) = same_records s _ refl refl
 
   sound_caller : (command : Command) (may : Result (Unit {0}) Unmet) → IsSound s (by_caller s command may)
@@ -67,11 +68,14 @@ module _ (keep_fit : ChangesKeepFit) (differ : ChangesDiffer) (s : State) where
 abbrev FitsIn : State → Type 0
 FitsIn s = Fits s.kept
 
-pub answers_keep_fit : StepsKeepFit → AnswersKeepFit
-answers_keep_fit steps s caller command reply new (by_step same is) fits = subst FitsIn is (steps s caller command fits)
-answers_keep_fit steps s caller command reply new (no_memory want same) fits = subst FitsIn (sym same) fits
-answers_keep_fit steps s caller command reply new (journal_full some want same) fits = subst FitsIn (sym same) fits
-answers_keep_fit steps s caller command reply new (not_kept some want same) fits = subst FitsIn (sym same) fits
+pub steps_keep_fit : StepsKeepFit
+steps_keep_fit s caller command = (sound s caller command).fits
+
+pub answers_keep_fit : AnswersKeepFit
+answers_keep_fit s caller command reply new (by_step same is) fits = subst FitsIn is (steps_keep_fit s caller command fits)
+answers_keep_fit s caller command reply new (no_memory want same) fits = subst FitsIn (sym same) fits
+answers_keep_fit s caller command reply new (journal_full some want same) fits = subst FitsIn (sym same) fits
+answers_keep_fit s caller command reply new (not_kept some want same) fits = subst FitsIn (sym same) fits
 
 -- ---- refusals
 

@@ -1,7 +1,7 @@
 ghost use Rattle.media_base.specs.declared.refusal.Refusal.TheVariants as refusals;
 ghost use Rattle.library_machine.specs.Covering.{PairsCover, PagesCover, CountsCover};
 ghost use Rattle.library_machine.specs.Records.{Fits, no_records};
-ghost use Rattle.library_machine.specs.Laws.{RefusalsChangeNothing, RefusedAnswersChangeNothing, StepsKeepFit, AnswersKeepFit, ChangesKeepFit, ChangesDiffer, ChangesAreTold, ChangesLead, WantsChange, RefusalsHaveCauses, JobsLackRoomAlone, DeletionsAreTakenBack};
+ghost use Rattle.library_machine.specs.Laws.{RefusalsChangeNothing, RefusedAnswersChangeNothing, StepsKeepFit, AnswersKeepFit, ChangesKeepFit, ChangesAreTold, ChangesLead, WantsChange, RefusalsHaveCauses, JobsLackRoomAlone, DeletionsAreTakenBack};
 
 /// A refused command changes nothing.
 pub fn refusals_change_nothing()
@@ -16,30 +16,13 @@ pub fn records_stay_fit()
     ensures after_a_step { StepsKeepFit }
     ensures after_an_answer { AnswersKeepFit }
     ensures after_a_change { ChangesKeepFit }
-{
-    changes_are_good();
-}
-
-// A change that is made leaves records that fit, and others.
-fn changes_are_good()
-    ensures fits { ChangesKeepFit }
-    ensures other { ChangesDiffer }
-{
-    file_records::laws();
-    file_records::live_laws();
-    file_records::search_laws();
-    file_records::near_laws();
-    decision_book::laws();
-}
+{}
 
 /// Exactly why the step refuses each command. A search of the next files of the queue never lacks a file.
 pub fn refusals_have_causes()
     ensures all { RefusalsHaveCauses }
     ensures jobs { JobsLackRoomAlone }
-{
-    file_records::laws();
-    file_records::search_laws();
-}
+{}
 
 /// A step tells a change exactly where the records change, and the change alone leads to the same records.
 /// That it wasn't kept is answered only where there is one.
@@ -48,16 +31,12 @@ pub fn changes_are_kept()
     ensures lead { ChangesLead }
     ensures room { WantsChange refusals.JournalFull }
     ensures kept { WantsChange refusals.NotKept }
-{
-    changes_are_good();
-}
+{}
 
 /// A file that was deleted comes back, and then the records are those from before its deletion.
 pub fn deletions_are_taken_back()
     ensures { DeletionsAreTakenBack }
-{
-    file_records::live_laws();
-}
+{}
 
 /// Where no file waits to be searched, the potential pairs within the library's distance are those of all
 /// live files that have a hash, and such pairs are told.
@@ -65,6 +44,4 @@ pub fn empty_queue_covers()
     ensures within { PairsCover }
     ensures pages { PagesCover }
     ensures counts { CountsCover }
-{
-    spare_tables::row_laws();
-}
+{}

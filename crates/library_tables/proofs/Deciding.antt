@@ -13,12 +13,15 @@ use Rattle.media_base.specs.declared.reply.Answer.TheVariants as answers
 use Rattle.decision_book.specs.declared.decision_row.DecisionRow.{DecisionRow}
 use Rattle.decision_book.specs.Recorded.{undone_at}
 use Rattle.decision_book.specs.Standing as book
-use Rattle.relation_groups.specs.Laws.{AreOfTwo, AreSound}
+use Rattle.decision_book.specs.DecisionLaws.{one_more}
+use Rattle.relation_groups.specs.FoldLaws.{after-push}
+use Rattle.relation_groups.specs.Laws.{AreSound}
 use Rattle.relation_groups.specs.Reading.{Kept, IsPlanFor, Planned, relations_after, relations_in, size_of}
+use Rattle.relation_groups.specs.SoundLaws.{relations-sound}
 use Rattle.relation_groups.specs.Relations.{Relations, after, by_code, decided, relations, relations_at, standing_of}
 use Rattle.library_machine.specs.Asking.{asked, answer, query_needs}
 use Rattle.library_machine.specs.Changing.{answer_to, does, effect, is_idle, needs}
-use Rattle.library_machine.specs.Laws.{ChangesKeepFit}
+use Rattle.library_machine.specs.GoodLaws.{changes_keep_fit}
 use Rattle.library_machine.specs.Needs.{has_file}
 use Rattle.library_machine.specs.Records.{Records, Fits}
 use Rattle.library_tables.specs.declared.decisions.PlannedDecision.{PlannedDecision}
@@ -28,7 +31,7 @@ use Rattle.library_tables.specs.declared.plan.TablesPlan.TheVariants as plans
 use Rattle.library_tables.specs.Pairs.{LeadsPairs}
 use Rattle.library_tables.specs.Preparing.{IsPrepared}
 use Rattle.library_tables.specs.Tables.{TablesView, AreInStep, records_of}
-use Rattle.library_tables.proofs.Refolding.{AllRecorded, standing_of_two}
+use Rattle.library_tables.proofs.Refolding.{standing_of_two}
 
 -- ---- decisions
 
@@ -50,45 +53,32 @@ decide_leads : (r : Records) (d : Decision) → effect r (changes.Decision d) �
 unfolding effect
 decide_leads r d = refl
 
--- one more decision is made after all others
-after_one : (R : Relations) (ds : List Decision) (d : Decision) → after R (ds ++ d ∷ []) ≡ decided d (after R ds)
-after_one R [] d = refl
-after_one R (first ∷ ds) d = after_one (decided first R) ds d
-
--- what the book says of one more decision: it stands behind the others
-abbrev pub StandsLast : Type 0
-StandsLast = (rows : List DecisionRow) (d : Decision) → book.standing (rows ++ book.row_of d ∷ []) ≡ book.standing rows ++ d ∷ []
-
 -- one more decision makes the relations that all standing ones make
-pub decided_related : StandsLast → (t : TablesView) (groups : Kept) (d : Decision) (plan : Planned) → AreInStep t →
+pub decided_related : (t : TablesView) (groups : Kept) (d : Decision) (plan : Planned) → AreInStep t →
     relations_after plan groups ≡ by_code d.code d.a.0 d.b.0 (relations_in t.groups) →
     relations_after plan groups ≡ relations (book.standing (t.book.rows ++ book.row_of d ∷ []))
-decided_related stands_last t groups d plan step related =
-    related ∙ ap (decided d) step.related ∙ sym (after_one _ (book.standing t.book.rows) d) ∙ ap relations (sym (stands_last t.book.rows d))
+decided_related t groups d plan step related =
+    related ∙ ap (decided d) step.related ∙ sym (after-push _ (book.standing t.book.rows) d) ∙ ap relations (sym (one_more t.book.rows d))
 
--- what the groups say of decisions of two files each
-abbrev pub SoundLaw : Type 0
-SoundLaw = (ds : List Decision) → AreOfTwo ds → AreSound (relations ds)
+pub sound_here : (t : TablesView) (groups : Kept) → AreInStep t → groups ≡ t.groups → AreSound (relations_in groups)
+sound_here t groups step same = rw (same, step.related) (relations-sound _ (standing_of_two t.book.rows step.fits.of_two))
 
-pub sound_here : SoundLaw → AllRecorded → (t : TablesView) (groups : Kept) → AreInStep t → groups ≡ t.groups → AreSound (relations_in groups)
-sound_here sound recorded t groups step same = rw (same, step.related) (sound _ (standing_of_two recorded t.book.rows step.fits.of_two))
+decide_fits : (r : Records) (d : Decision) → CanDecide r d → Fits r → Fits (record r { decisions = r.decisions ++ book.row_of d ∷ [] })
+decide_fits r d can fits = subst Fits (decide_leads r d) (changes_keep_fit r (changes.Decision d) (decide_does r d can) fits)
 
-decide_fits : ChangesKeepFit → (r : Records) (d : Decision) → CanDecide r d → Fits r → Fits (record r { decisions = r.decisions ++ book.row_of d ∷ [] })
-decide_fits keep r d can fits = subst Fits (decide_leads r d) (keep r (changes.Decision d) (decide_does r d can) fits)
-
-pub sound_decided : SoundLaw → AllRecorded → StandsLast → ChangesKeepFit → (t : TablesView) (groups : Kept) (d : Decision) (plan : Planned) →
+pub sound_decided : (t : TablesView) (groups : Kept) (d : Decision) (plan : Planned) →
     AreInStep t → CanDecide (records_of t) d →
     relations_after plan groups ≡ by_code d.code d.a.0 d.b.0 (relations_in t.groups) → AreSound (relations_after plan groups)
-sound_decided sound recorded stands_last keep t groups d plan step can related =
-    let fits = decide_fits keep (records_of t) d can step.fits in
-    rw (decided_related stands_last t groups d plan step related) (sound _ (standing_of_two recorded _ fits.of_two))
+sound_decided t groups d plan step can related =
+    let fits = decide_fits (records_of t) d can step.fits in
+    rw (decided_related t groups d plan step related) (relations-sound _ (standing_of_two _ fits.of_two))
 
-pub decide_prepared : ChangesKeepFit → (t : TablesView) (plan : PlannedDecision) (count : ℕ) → Fits (records_of t) → CanDecide (records_of t) plan.decision →
+pub decide_prepared : (t : TablesView) (plan : PlannedDecision) (count : ℕ) → Fits (records_of t) → CanDecide (records_of t) plan.decision →
     count ≡ length t.book.rows → 1 ≤ t.book.spare → IsPlanFor plan.groups t.groups →
     relations_after plan.groups t.groups ≡ relations (book.standing (t.book.rows ++ book.row_of plan.decision ∷ [])) →
     LeadsPairs plan.pairs (relations_after plan.groups t.groups) t.files.rows t.pairs →
     IsPrepared (changes.Decision plan.decision) t (prepared.Ready (plans.Decide plan) (answers.Decided (record { 0 = count })))
-decide_prepared keep t plan count fits can is room planned related paired =
+decide_prepared t plan count fits can is room planned related paired =
     let r = records_of t in
     let d = plan.decision in
     let both = and_parts (has_file r d.a) (has_file r d.b) can.there in
@@ -103,7 +93,7 @@ decide_prepared keep t plan count fits can is room planned related paired =
         planned = planned;
         related = related;
         paired = paired;
-        fits = keep r (changes.Decision d) done fits;
+        fits = changes_keep_fit r (changes.Decision d) done fits;
         leads = decide_leads r d;
       },
       refl,
@@ -124,12 +114,12 @@ undo_leads : (r : Records) (n : DecisionNo) → effect r (changes.Undo n) ≡ re
 unfolding effect
 undo_leads r n = refl
 
-pub undo_prepared : ChangesKeepFit → (t : TablesView) (plan : PlannedUndo) (row : DecisionRow) → Fits (records_of t) →
+pub undo_prepared : (t : TablesView) (plan : PlannedUndo) (row : DecisionRow) → Fits (records_of t) →
     slice_get t.book.rows plan.number.0 ≡ Some row → row.undone ≡ false →
     IsPlanFor plan.groups t.groups → relations_after plan.groups t.groups ≡ relations (book.standing (undone_at plan.number.0 t.book.rows)) →
     LeadsPairs plan.pairs (relations_after plan.groups t.groups) t.files.rows t.pairs →
     IsPrepared (changes.Undo plan.number) t (prepared.Ready (plans.Undo plan) (answers.Undone plan.number))
-undo_prepared keep t plan row fits at stands planned related paired =
+undo_prepared t plan row fits at stands planned related paired =
     let r = records_of t in
     let n = plan.number in
     let known = slice_get_within t.book.rows n.0 row at in
@@ -142,7 +132,7 @@ undo_prepared keep t plan row fits at stands planned related paired =
         planned = planned;
         related = related;
         paired = paired;
-        fits = keep r (changes.Undo n) done fits;
+        fits = changes_keep_fit r (changes.Undo n) done fits;
         leads = undo_leads r n;
       },
       refl,

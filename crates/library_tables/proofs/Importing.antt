@@ -13,7 +13,7 @@ use Rattle.file_records.specs.Searching.{is_queued}
 use Rattle.file_records.specs.Words.{new_words, words_of}
 use Rattle.file_records.specs.declared.file_row.FileRow.{FileRow}
 use Rattle.library_machine.specs.Changing.{answer_to, does, effect, is_idle, needs}
-use Rattle.library_machine.specs.Laws.{ChangesKeepFit}
+use Rattle.library_machine.specs.GoodLaws.{changes_keep_fit}
 use Rattle.library_machine.specs.Records.{Records, Fits}
 use Rattle.library_tables.specs.declared.imports.PlannedImport.{PlannedImport}
 use Rattle.library_tables.specs.declared.plan.Prepared.TheVariants as prepared
@@ -42,13 +42,13 @@ new_queued : (has_hash : Bool) → (true && (has_hash && true)) ≡ has_hash
 new_queued true = refl
 new_queued false = refl
 
-pub import_prepared : ChangesKeepFit → (t : TablesView) (file : NewFile) (plan : PlannedImport) (count : ℕ) → Fits (records_of t) →
+pub import_prepared : (t : TablesView) (file : NewFile) (plan : PlannedImport) (count : ℕ) → Fits (records_of t) →
     file_with file.sha t.files.rows ≡ None → nat_lt (length t.files.rows) MAX_FILES ≡ true → count ≡ length t.files.rows →
     1 ≤ t.book.spare → 1 ≤ t.groups.spare → 1 ≤ t.work.spare → length plan.file.words ≤ t.work.mark_spare →
     plan.file.row ≡ row_of file → IsPlannedFor plan.file t.files →
     words_planned plan.words.items ≡ plan.file.words → length plan.file.words ≤ t.tree.spare → nat_lt 0 (length file.hashes) ≡ plan.queued →
     IsPrepared (changes.File file) t (prepared.Ready (plans.Import plan) (answers.Imported (record { file = record { 0 = count }; status = imports.New })))
-import_prepared keep t file plan count fits new room is book_room group_room queue_room mark_room is_row planned words tree_room hashes =
+import_prepared t file plan count fits new room is book_room group_room queue_room mark_room is_row planned words tree_room hashes =
     let r = records_of t in
     let done = import_does r file new room in (
       done,
@@ -64,7 +64,7 @@ import_prepared keep t file plan count fits new room is book_room group_room que
         told = ap (is_queued t.distance) is_row ∙ new_queued (nat_lt 0 (length file.hashes)) ∙ hashes;
         queue_room = queue_room;
         mark_room = mark_room;
-        fits = keep r (changes.File file) done fits;
+        fits = changes_keep_fit r (changes.File file) done fits;
         leads = import_leads r file ∙ ap (λ (row : FileRow). record r { files = r.files ++ row ∷ [] }) (sym is_row);
       },
       words ∙ planned.words ∙ ap (λ (row : FileRow). new_words (words_of t.files.rows) row.hashes) is_row,

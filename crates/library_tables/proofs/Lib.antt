@@ -9,3 +9,4 @@ pub mod Queueing
 pub mod Refolding
 pub mod Rising
 pub mod Telling
+pub mod TreeMarks

@@ -15,7 +15,7 @@ use Rattle.tag_store.specs.Numbering.{HasPlaceFor, is_tag, number_of}
 use Rattle.tag_store.specs.NumberingLaws.{is_numbered, numbered_there, tagged}
 use Rattle.library_machine.specs.Changing.{answer_to, does, effect, is_idle, mapping_needs, needs}
 use Rattle.library_machine.specs.Guards.{guarded}
-use Rattle.library_machine.specs.Laws.{ChangesKeepFit}
+use Rattle.library_machine.specs.GoodLaws.{changes_keep_fit}
 use Rattle.library_machine.specs.Needs.{Need, has_file, has_mapping, has_service, has_tag, is_met, room_for_mapping, room_for_tag, tag_there, unmet}
 use Rattle.library_machine.specs.Records.{Records, Fits}
 use Rattle.library_machine.specs.Tagging.{has_orders, is_mapped_so, mapped, mapping_told, numbered, services_named, with_mapping, with_orders, with_service}
@@ -37,14 +37,14 @@ pub service_full : (r : Records) → nat_lt (length r.services) MAX_SERVICES ≡
 unfolding needs is_idle
 service_full r full = rw full refl
 
-pub service_prepared : ChangesKeepFit → (t : TablesView) (count : ℕ) → Fits (records_of t) → nat_lt (length t.services) MAX_SERVICES ≡ true → count ≡ length t.services →
+pub service_prepared : (t : TablesView) (count : ℕ) → Fits (records_of t) → nat_lt (length t.services) MAX_SERVICES ≡ true → count ≡ length t.services →
     IsPrepared changes.Service t (prepared.Ready plans.Service (answers.Service (record { 0 = count })))
 unfolding effect answer_to
-service_prepared keep t count fits room is =
+service_prepared t count fits room is =
     let done = service_does (records_of t) room in (
       done,
       ap (λ (n : ℕ). answers.Service (record { 0 = n })) (sym is),
-      record { few = ltb-true _ _ room; fits = keep (records_of t) changes.Service done fits; leads = refl },
+      record { few = ltb-true _ _ room; fits = changes_keep_fit (records_of t) changes.Service done fits; leads = refl },
       refl,
     )
 
@@ -69,15 +69,15 @@ pub orders_idle : (t : TablesView) (service : ServiceNo) (orders : Orders) → l
 unfolding answer_to
 orders_idle t service orders there same = (orders_does (records_of t) service orders there ∙ ap Ok same, refl)
 
-pub orders_prepared : ChangesKeepFit → (t : TablesView) (service : ServiceNo) (orders : Orders) → Fits (records_of t) →
+pub orders_prepared : (t : TablesView) (service : ServiceNo) (orders : Orders) → Fits (records_of t) →
     list_all (has_service (records_of t)) (services_named service orders) ≡ true → service.0 < length t.services → has_orders (records_of t) service orders ≡ false →
     IsPrepared (changes.Orders service orders) t (prepared.Ready (plans.Orders (record { service = service; orders = orders })) (answers.Service service))
 unfolding effect answer_to
-orders_prepared keep t service orders fits there known other =
+orders_prepared t service orders fits there known other =
     let done = orders_does (records_of t) service orders there ∙ ap Ok other in (
       done,
       refl,
-      record { known = known; fits = keep (records_of t) (changes.Orders service orders) done fits; leads = refl },
+      record { known = known; fits = changes_keep_fit (records_of t) (changes.Orders service orders) done fits; leads = refl },
       refl,
     )
 
@@ -153,14 +153,14 @@ unfolding answer_to
 taken_answer r m is = taken_told r m m.state is
 
 -- a mapping that is ready to be made
-pub mapping_prepared : ChangesKeepFit → (t : TablesView) (m : Mapping) (plan : PlannedMapping) (answer : _) → Fits (records_of t) →
+pub mapping_prepared : (t : TablesView) (m : Mapping) (plan : PlannedMapping) (answer : _) → Fits (records_of t) →
     does (records_of t) (changes.Mapping m) ≡ Ok false → answer_to (records_of t) (changes.Mapping m) ≡ answer → IsReady plan m t →
     IsPrepared (changes.Mapping m) t (prepared.Ready (plans.Mapping plan) answer)
 unfolding effect
-mapping_prepared keep t m plan answer fits done told ready = (
+mapping_prepared t m plan answer fits done told ready = (
   done,
   told,
-  record { mapping = m; ready = ready; fits = keep (records_of t) (changes.Mapping m) done fits; leads = refl },
+  record { mapping = m; ready = ready; fits = changes_keep_fit (records_of t) (changes.Mapping m) done fits; leads = refl },
   refl,
 )
 

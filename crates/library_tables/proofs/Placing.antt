@@ -11,8 +11,9 @@ use Rattle.vp_tree.specs.Nodes.{words_in}
 use Rattle.vp_tree.specs.Placing.{CanTake}
 use Rattle.library_tables.specs.Imports.{words_planned}
 use Rattle.file_records.specs.declared.file_row.FileRow.{FileRow}
-use Rattle.file_records.specs.Importing.{IsPlannedFor, Planned}
-use Rattle.file_records.specs.Words.{AreDistinctWords, is_among, new_words, words_of}
+use Rattle.file_records.specs.Importing.{IsPlannedFor, PlannedFile}
+use Rattle.file_records.specs.WordLaws.{few_new_words}
+use Rattle.file_records.specs.Words.{AreDistinctWords, words_of}
 
 -- a word that comes behind those of the tree in a list without repeats isn't in the tree
 pub not_there : (old : List NodeView) (words : List Hash64) (i : ℕ) (word : Hash64) →
@@ -59,30 +60,18 @@ can_take old tree done plan rest all parts words room distinct few =
       other = not_there tree.rows (plan.word ∷ words_planned rest) 0 plan.word (subst AreDistinctWords split distinct) (omega arith) refl;
     }
 
--- a file brings no more words than it has hashes
-new_more : (words : List Hash64) (hash : Hash64) (hashes : List Hash64) (known : Bool) →
-    length (new_words words hashes) ≤ length hashes → length (new_words (words ++ hash ∷ []) hashes) ≤ length hashes →
-    length (if known then new_words words hashes else hash ∷ new_words (words ++ hash ∷ []) hashes) ≤ suc (length hashes)
-new_more words hash hashes true here later = omega (arith, here)
-new_more words hash hashes false here later = omega (arith, later)
-
-pub few_new : (words hashes : List Hash64) → length (new_words words hashes) ≤ length hashes
-few_new words [] = omega arith
-few_new words (hash ∷ hashes) =
-    new_more words hash hashes (is_among words hash) (few_new words hashes) (few_new (words ++ hash ∷ []) hashes)
-
 -- what a planned import asks of the tree
 pub record AsksOfTree (tree : Table NodeView) (words : List Hash64) : Type 0 where
   pub distinct : AreDistinctWords (words_in tree.rows ++ words)
   pub few : length words ≤ MAX_HASHES
   pub few_words : length tree.rows + length words ≤ MAX_WORDS
 
-pub asks_of_tree : (tree : Table NodeView) (old new : List FileRow) (spare : ℕ) (plan : Planned) (words : List Hash64) →
+pub asks_of_tree : (tree : Table NodeView) (old new : List FileRow) (spare : ℕ) (plan : PlannedFile) (words : List Hash64) →
     words_in tree.rows ≡ words_of old → new ≡ old → IsPlannedFor plan (record { rows = new; spare = spare }) → words ≡ plan.words → AsksOfTree tree words
 asks_of_tree tree old new spare plan words has same planned is =
     let n : length tree.rows ≡ length (words_of new) =
     sym (length-map tree.rows (λ (m : NodeView). m.word)) ∙ ap length has ∙ ap (λ (rows : List FileRow). length (words_of rows)) (sym same) in
-    let few = few_new (words_of new) plan.row.hashes in
+    let few = few_new_words (words_of new) plan.row.hashes in
     record {
       distinct = rw (is, has, ← same) planned.distinct;
       few = omega (arith, few, planned.few_hashes, ap length is, ap length planned.words);

@@ -8,37 +8,31 @@ use Rattle.media_types.specs.declared.numbers.FileNo.{FileNo}
 use Rattle.decision_book.specs.declared.decision_row.DecisionRow.{DecisionRow}
 use Rattle.decision_book.specs.Recorded.{undone_at}
 use Rattle.decision_book.specs.Standing.{decision_of, standing}
+use Rattle.decision_book.specs.DecisionLaws.{all_recorded, undoing_keeps_decisions}
 use Rattle.relation_groups.specs.Clusters.{IsClosed, IsSplitBy, IsWithin, is_one_of, outside, patched, touching}
-use Rattle.relation_groups.specs.Laws.{AreOfTwo, ClosedSetsSplit, OthersStay}
+use Rattle.relation_groups.specs.ClosedLaws.{closed-split, others-stay, within-closed}
+use Rattle.relation_groups.specs.Laws.{AreOfTwo}
 use Rattle.media_types.specs.Numbered.{files}
 use Rattle.relation_groups.specs.Relations.{AreAmong, relations}
 
 -- ---- the decisions that stand
 
--- what the book says of the decisions that stand: each was recorded
-abbrev pub AllRecorded : Type 0
-AllRecorded = (rows : List DecisionRow) → All (Contains (map decision_of rows)) (standing rows)
-
--- and of an undoing: each row keeps its decision
-abbrev pub KeepsDecisions : Type 0
-KeepsDecisions = (n : ℕ) (rows : List DecisionRow) → map decision_of (undone_at n rows) ≡ map decision_of rows
-
 -- what holds of each decision holds of each that stands
-all_standing : AllRecorded → (P : Decision → Type 0) (rows : List DecisionRow) → All P (map decision_of rows) → All P (standing rows)
-all_standing recorded P rows all = λ k d lt. All-contains P (map decision_of rows) _ all (recorded rows k d lt)
+all_standing : (P : Decision → Type 0) (rows : List DecisionRow) → All P (map decision_of rows) → All P (standing rows)
+all_standing P rows all = λ k d lt. All-contains P (map decision_of rows) _ all (all_recorded rows k d lt)
 
-pub standing_among : AllRecorded → (n : ℕ) (rows : List DecisionRow) → AreAmong n (map decision_of rows) → AreAmong n (standing rows)
-standing_among recorded n rows among = all_standing recorded (λ d. (d.a.0 < n) × (d.b.0 < n)) rows among
+pub standing_among : (n : ℕ) (rows : List DecisionRow) → AreAmong n (map decision_of rows) → AreAmong n (standing rows)
+standing_among n rows among = all_standing (λ d. (d.a.0 < n) × (d.b.0 < n)) rows among
 
-pub standing_of_two : AllRecorded → (rows : List DecisionRow) → AreOfTwo (map decision_of rows) → AreOfTwo (standing rows)
-standing_of_two recorded rows two = all_standing recorded (λ d. d.a.0 ≢ d.b.0) rows two
+pub standing_of_two : (rows : List DecisionRow) → AreOfTwo (map decision_of rows) → AreOfTwo (standing rows)
+standing_of_two rows two = all_standing (λ d. d.a.0 ≢ d.b.0) rows two
 
 -- also once one is undone
-pub left_among : AllRecorded → KeepsDecisions → (n m : ℕ) (rows : List DecisionRow) → AreAmong m (map decision_of rows) → AreAmong m (standing (undone_at n rows))
-left_among recorded same n m rows among = standing_among recorded m (undone_at n rows) (rw (same n rows) among)
+pub left_among : (n m : ℕ) (rows : List DecisionRow) → AreAmong m (map decision_of rows) → AreAmong m (standing (undone_at n rows))
+left_among n m rows among = standing_among m (undone_at n rows) (rw (undoing_keeps_decisions n rows) among)
 
-pub left_of_two : AllRecorded → KeepsDecisions → (n : ℕ) (rows : List DecisionRow) → AreOfTwo (map decision_of rows) → AreOfTwo (standing (undone_at n rows))
-left_of_two recorded same n rows two = standing_of_two recorded (undone_at n rows) (rw (same n rows) two)
+pub left_of_two : (n : ℕ) (rows : List DecisionRow) → AreOfTwo (map decision_of rows) → AreOfTwo (standing (undone_at n rows))
+left_of_two n rows two = standing_of_two (undone_at n rows) (rw (undoing_keeps_decisions n rows) two)
 
 -- ---- all files
 
@@ -71,9 +65,6 @@ files_known n m le =
 pub all_within : (n : ℕ) (ds : List Decision) → AreAmong n ds → IsWithin (is_one_of (files n)) ds
 all_within n ds among = λ k d lt. let here = among k d lt in (is_a_file n _ here.0, is_a_file n _ here.1)
 
-within_closed : (S : ℕ → Bool) (ds : List Decision) → IsWithin S ds → IsClosed S ds
-within_closed S ds within = λ k d lt. let here = within k d lt in here.0 ∙ sym here.1
-
 touching_all : (S : ℕ → Bool) (ds : List Decision) → AllByRecursion (λ d. (S d.a.0 ≡ true) × (S d.b.0 ≡ true)) ds → touching S ds ≡ ds
 touching_all S [] within = refl
 touching_all S (d ∷ ds) within =
@@ -84,13 +75,13 @@ touching_none S [] within = refl
 touching_none S (d ∷ ds) within =
     ap (λ (b : Bool). cond (not b) (d ∷ touching (outside S) ds) (touching (outside S) ds)) within.0.0 ∙ touching_none S ds within.1
 
-pub all_split : ClosedSetsSplit → (n : ℕ) (ds : List Decision) → AreAmong n ds → IsSplitBy (is_one_of (files n)) (relations ds)
-all_split split n ds among = let S = is_one_of (files n) in split S ds (within_closed S ds (all_within n ds among))
+pub all_split : (n : ℕ) (ds : List Decision) → AreAmong n ds → IsSplitBy (is_one_of (files n)) (relations ds)
+all_split n ds among = let S = is_one_of (files n) in closed-split S ds (within-closed S ds (all_within n ds among))
 
 -- all decisions of all files, made anew, are all there is
-pub all_anew : OthersStay → (n : ℕ) (ds es : List Decision) → AreAmong n ds → AreAmong n es →
+pub all_anew : (n : ℕ) (ds es : List Decision) → AreAmong n ds → AreAmong n es →
     patched (is_one_of (files n)) (relations es) (relations ds) ≡ relations es
-all_anew stay n ds es among also =
+all_anew n ds es among also =
     let S = is_one_of (files n) in
     let P : Decision → Type 0 = λ d. (S d.a.0 ≡ true) × (S d.b.0 ≡ true) in
     let these = all_within n ds among in
@@ -98,4 +89,4 @@ all_anew stay n ds es among also =
     let none_these = touching_none S ds (recursion_from_All P ds these) in
     let none_those = touching_none S es (recursion_from_All P es those) in
     ap (λ fs. patched S (relations fs) (relations ds)) (sym (touching_all S es (recursion_from_All P es those)))
-    ∙ sym (stay S ds es (within_closed S ds these) (within_closed S es those) (none_these ∙ sym none_those))
+    ∙ sym (others-stay S ds es (within-closed S ds these) (within-closed S es those) (none_these ∙ sym none_those))

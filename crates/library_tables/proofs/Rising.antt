@@ -10,12 +10,13 @@ use Rattle.media_base.specs.declared.change.Change.TheVariants as changes
 use Rattle.media_base.specs.declared.reply.Answer.TheVariants as answers
 use Rattle.file_records.specs.declared.file_row.FileRow.{FileRow}
 use Rattle.file_records.specs.Near.{near_pairs}
+use Rattle.file_records.specs.SearchLaws.{enough, known}
 use Rattle.file_records.specs.Searching.{queue_of, rising, searched}
 use Rattle.relation_groups.specs.Reading.{relations_in}
 use Rattle.potential_pairs.specs.Planning.{PlanView}
 use Rattle.potential_pairs.specs.Planning.{after as pairs_after}
 use Rattle.library_machine.specs.Changing.{answer_to, does, effect, is_idle, needs}
-use Rattle.library_machine.specs.Laws.{ChangesKeepFit}
+use Rattle.library_machine.specs.GoodLaws.{changes_keep_fit}
 use Rattle.library_machine.specs.Needs.{has_file}
 use Rattle.library_machine.specs.Records.{Records, Fits}
 use Rattle.library_machine.specs.Searches.{after_search, counts, has_room_for_near, is_empty, risen}
@@ -25,11 +26,6 @@ use Rattle.library_tables.specs.declared.searches.PlannedSearch.{PlannedSearch}
 use Rattle.library_tables.specs.Pairs.{LeadsPairs}
 use Rattle.library_tables.specs.Preparing.{IsPrepared}
 use Rattle.library_tables.specs.Tables.{TablesView, records_of}
-
--- what the file records say of searches
-pub record Laws : Type 0 where
-  pub enough : (d : ℕ) (named : List FileNo) (files : List FileRow) → searched d (rising d named files) files ≡ searched d named files
-  pub known : (d : ℕ) (named : List FileNo) (files : List FileRow) → All (λ f. f.0 < length files) (rising d named files)
 
 -- ---- what a search of files that are there comes to
 
@@ -65,32 +61,32 @@ tells_counts t s files left read =
     ∙ ap (λ (n : ℕ). answers.Searched (record { searched = length files; left = n })) (sym read.waits)
 
 -- how many pairs are near after a search
-pub near_count : Laws → (t : TablesView) (s : Searching) (files : List FileNo) (pairs : PlanView) →
+pub near_count : (t : TablesView) (s : Searching) (files : List FileNo) (pairs : PlanView) →
     files ≡ rising s.distance s.files t.files.rows →
     LeadsPairs pairs (relations_in t.groups) (searched s.distance files t.files.rows) t.pairs →
     length (pairs_after pairs t.pairs.rows).near ≡ length t.pairs.rows.near + length pairs.near →
     length (near_pairs (searched s.distance s.files t.files.rows)) ≡ length t.pairs.rows.near + length pairs.near
-near_count laws t s files pairs risen paired counted =
+near_count t s files pairs risen paired counted =
     let same : searched s.distance files t.files.rows ≡ searched s.distance s.files t.files.rows =
-    ap (λ (risen : List FileNo). searched s.distance risen t.files.rows) risen ∙ laws.enough s.distance s.files t.files.rows in
+    ap (λ (risen : List FileNo). searched s.distance risen t.files.rows) risen ∙ enough s.distance s.files t.files.rows in
     ap (λ (rows : List FileRow). length (near_pairs rows)) (sym same) ∙ sym (ap length paired.paired.near) ∙ counted
 
-pub search_prepared : ChangesKeepFit → Laws → (t : TablesView) (s : Searching) (plan : PlannedSearch) (left : ℕ) → Fits (records_of t) →
+pub search_prepared : (t : TablesView) (s : Searching) (plan : PlannedSearch) (left : ℕ) → Fits (records_of t) →
     IsRead t s plan.files left → plan.files ≢ [] → plan.distance ≡ s.distance →
     LeadsPairs plan.pairs (relations_in t.groups) (searched plan.distance plan.files t.files.rows) t.pairs →
     length (near_pairs (searched s.distance s.files t.files.rows)) ≤ MAX_NEAR →
     IsPrepared (changes.Searched s) t (prepared.Ready (plans.Search plan) (answers.Searched (record { searched = length plan.files; left = left })))
-search_prepared keep laws t s plan left fits read some within paired few =
+search_prepared t s plan left fits read some within paired few =
     let r = records_of t in
     let done = search_does r s read.there (ap is_empty (sym read.rises) ∙ not_empty plan.files some) (le-leb _ _ few) in
     let all : searched plan.distance plan.files t.files.rows ≡ searched s.distance s.files t.files.rows =
-    ap (λ (d : ℕ). searched d plan.files t.files.rows) within ∙ ap (λ (files : List FileNo). searched s.distance files t.files.rows) read.rises ∙ laws.enough s.distance s.files t.files.rows in (
+    ap (λ (d : ℕ). searched d plan.files t.files.rows) within ∙ ap (λ (files : List FileNo). searched s.distance files t.files.rows) read.rises ∙ enough s.distance s.files t.files.rows in (
       done,
       tells_counts t s plan.files left read,
       record {
-        known = subst (All (λ f. f.0 < length t.files.rows)) (sym read.rises) (laws.known s.distance s.files t.files.rows);
+        known = subst (All (λ f. f.0 < length t.files.rows)) (sym read.rises) (known s.distance s.files t.files.rows);
         paired = paired;
-        fits = keep r (changes.Searched s) done fits;
+        fits = changes_keep_fit r (changes.Searched s) done fits;
         leads = search_leads r s ∙ ap (λ (rows : List FileRow). record r { files = rows }) (sym all);
       },
       refl,

@@ -11,7 +11,7 @@ use Rattle.decision_book.specs.Standing.{standing}
 use Rattle.relation_groups.specs.Reading.{Kept, relations_in, size_of}
 use Rattle.relation_groups.specs.Relations.{Relations, relations}
 use Rattle.potential_pairs.specs.Potential.{AreOf, PairsView}
-use Rattle.potential_pairs.specs.Potential.{Kept as PairsKept}
+use Rattle.potential_pairs.specs.Potential.{KeptPairs}
 use Rattle.vp_tree.specs.declared.node.NodeView.{NodeView}
 use Rattle.vp_tree.specs.Marking.{MarkedTree}
 use Rattle.vp_tree.specs.Nodes.{words_in}
@@ -27,7 +27,7 @@ pub record TablesView : Type 0 where
   pub book : Recorded
   pub groups : Kept
   pub tree : Table NodeView
-  pub pairs : PairsKept
+  pub pairs : KeptPairs
   pub work : Work
   pub distance : ℕ
   pub tags : Numbered

@@ -35,7 +35,7 @@ pub struct PlannedUndo {
 }
 
 impl Tables {
-    #[tactic(auto, unfolding(library_machine::specs::Changing::needs, library_machine::specs::Changing::is_idle, library_machine::specs::Changing::effect, library_machine::specs::Changing::answer_to))]
+    #[tactic(auto, using(file_records::specs::NearLaws::below), unfolding(library_machine::specs::Changing::needs, library_machine::specs::Changing::is_idle, library_machine::specs::Changing::effect, library_machine::specs::Changing::answer_to))]
     pub(crate) fn plan_decide<L: Ledger>(
         &mut self,
         decision: Decision,
@@ -55,10 +55,6 @@ impl Tables {
         if count >= MAX_DECISIONS {
             return Ok(Unmet::FullDecisions.into());
         }
-        library_machine::records_stay_fit();
-        file_records::near_laws();
-        decision_book::laws();
-        relation_groups::laws();
         self.book.reserve(steps)?;
         let Decision { code, a, b } = decision;
         let groups = self.groups.plan_decide(code, a, b, steps)?;
@@ -79,7 +75,7 @@ impl Tables {
         self.has_file(decision.a) && self.has_file(decision.b)
     }
 
-    #[tactic(auto, unfolding(library_machine::specs::Changing::needs, library_machine::specs::Changing::is_idle, library_machine::specs::Changing::effect, library_machine::specs::Changing::answer_to))]
+    #[tactic(auto, using(file_records::specs::NearLaws::below), unfolding(library_machine::specs::Changing::needs, library_machine::specs::Changing::is_idle, library_machine::specs::Changing::effect, library_machine::specs::Changing::answer_to))]
     pub(crate) fn plan_undo<L: Ledger>(
         &mut self,
         number: DecisionNo,
@@ -97,10 +93,6 @@ impl Tables {
         }
         let standing = self.book.standing_without(number, self.alloc, steps)?;
         let files = all_files(self.alloc, self.files.len())?;
-        library_machine::records_stay_fit();
-        file_records::near_laws();
-        decision_book::laws();
-        relation_groups::laws();
         let groups = self.groups.plan_refold(&files, &standing, steps)?;
         let pairs = self.pairs.plan_moved(&groups, &self.groups, steps)?;
         Ok(Prepared::Ready(

@@ -25,7 +25,7 @@ pub struct PlannedLive {
 }
 
 impl Tables {
-    #[tactic(auto, unfolding(library_machine::specs::Changing::needs, library_machine::specs::Changing::is_idle, library_machine::specs::Changing::effect, library_machine::specs::Changing::answer_to))]
+    #[tactic(auto, using(file_records::specs::NearLaws::below), unfolding(library_machine::specs::Changing::needs, library_machine::specs::Changing::is_idle, library_machine::specs::Changing::effect, library_machine::specs::Changing::answer_to))]
     pub(crate) fn plan_live<L: Ledger>(
         &mut self,
         file: FileNo,
@@ -43,9 +43,6 @@ impl Tables {
         if self.files.row(file, steps).live == live {
             return Ok(Prepared::Idle(Answer::Changed(false)));
         }
-        library_machine::records_stay_fit();
-        file_records::live_laws();
-        file_records::near_laws();
         self.upkeep.reserve()?;
         let queued = live && self.files.wants_search(file, self.distance, steps);
         let pairs = self.pairs.plan_live(file, live, &self.groups, steps)?;
@@ -60,13 +57,13 @@ impl Tables {
         ))
     }
 
+    #[tactic(auto, using(file_records::specs::MarkLaws::same_length, file_records::specs::MarkLaws::words, file_records::specs::MarkLaws::queue))]
     pub(crate) fn commit_live(&mut self, plan: PlannedLive)
         requires { (after : Records) × LeadsLive plan self.old after }
         ensures records { (after : Records) → LeadsLive plan self.old after → records_of self.new ≡ after }
         ensures tree { marked_tree self.new ≡ marked_tree self.old }
         ensures words { HasWords self.new.tree.rows (records_of self.new) }
     {
-        file_records::live_laws();
         self.files.set_live(plan.file, plan.live);
         self.upkeep.note(plan.file, plan.queued);
         self.pairs.commit(plan.pairs);

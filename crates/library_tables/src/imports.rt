@@ -29,7 +29,7 @@ pub struct PlannedImport {
 }
 
 impl Tables {
-    #[tactic(auto, unfolding(library_machine::specs::Changing::needs, library_machine::specs::Changing::is_idle, library_machine::specs::Changing::effect, library_machine::specs::Changing::answer_to))]
+    #[tactic(auto, using(library_machine::specs::GoodLaws::changes_keep_fit), unfolding(library_machine::specs::Changing::needs, library_machine::specs::Changing::is_idle, library_machine::specs::Changing::effect, library_machine::specs::Changing::answer_to))]
     pub(crate) fn plan_import<L: Ledger>(
         &mut self,
         file: &NewFile,
@@ -49,7 +49,6 @@ impl Tables {
         if count >= MAX_FILES {
             return Ok(Unmet::FullFiles.into());
         }
-        library_machine::records_stay_fit();
         self.book.reserve(steps)?;
         self.groups.reserve_file()?;
         self.upkeep.reserve()?;
@@ -88,9 +87,6 @@ impl Tables {
         ensures words { HasWords self.new.tree.rows (records_of self.new) }
         ensures steps { words_planned plan.words.items ≡ [] → steps.new ≡ steps.old }
     {
-        file_records::search_laws();
-        file_records::near_laws();
-        tree_upkeep::laws();
         let PlannedImport {
             file,
             words,

@@ -19,6 +19,7 @@ use std::sync::ledger::Ledger;
 
 impl Tables {
     /// Plans to note the pairs that these files make near once they are searched.
+    #[tactic(auto, using(file_records::specs::NearLaws::below, file_records::specs::NearLaws::still_deleted))]
     pub(crate) fn plan_near<L: Ledger>(
         &mut self,
         risen: &[FileNo],
@@ -39,7 +40,6 @@ impl Tables {
         ensures reads { steps.new ≤ steps.old + 8 * (length risen.now
             + 2 * work self.old.tree.rows self.old.files.rows distance risen.now) }
     {
-        file_records::near_laws();
         let found = find_near(self.alloc, &self.files, &self.tree, risen, distance, steps)?;
         self.pairs.plan_found(&found, &self.groups, steps)
     }
@@ -48,10 +48,6 @@ impl Tables {
     fn potential_pairs(&self) -> &Pairs
         ensures { result.now.rows.pairs ≡ machine.potential_pairs (records_of self.now) }
     {
-        file_records::near_laws();
-        decision_book::laws();
-        relation_groups::laws();
-        potential_pairs::laws();
         &self.pairs
     }
 

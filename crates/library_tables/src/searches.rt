@@ -44,7 +44,7 @@ pub struct PlannedSearch {
 }
 
 impl Tables {
-    #[tactic(auto, unfolding(library_machine::specs::Changing::needs, library_machine::specs::Changing::is_idle, library_machine::specs::Changing::effect, library_machine::specs::Changing::answer_to))]
+    #[tactic(auto, using(library_machine::specs::GoodLaws::changes_keep_fit, file_records::specs::QueueLaws::queue_ascends, file_records::specs::QueueLaws::queue_known), unfolding(library_machine::specs::Changing::needs, library_machine::specs::Changing::is_idle, library_machine::specs::Changing::effect, library_machine::specs::Changing::answer_to))]
     pub(crate) fn plan_distance<L: Ledger>(
         &mut self,
         distance: SearchDistance,
@@ -58,8 +58,6 @@ impl Tables {
         if self.distance == distance {
             return Ok(Prepared::Idle(answer));
         }
-        library_machine::records_stay_fit();
-        file_records::search_laws();
         let files = self.files.queue(distance, steps)?;
         let queue = self.upkeep.plan_queue(&files)?;
         Ok(Prepared::Ready(
@@ -68,7 +66,7 @@ impl Tables {
         ))
     }
 
-    #[tactic(auto, unfolding(library_machine::specs::Changing::needs, library_machine::specs::Changing::is_idle, library_machine::specs::Changing::effect, library_machine::specs::Changing::answer_to))]
+    #[tactic(auto, using(library_machine::specs::GoodLaws::changes_keep_fit, file_records::specs::SearchLaws::known, file_records::specs::SearchLaws::rising_ascends), unfolding(library_machine::specs::Changing::needs, library_machine::specs::Changing::is_idle, library_machine::specs::Changing::effect, library_machine::specs::Changing::answer_to))]
     pub(crate) fn plan_search<L: Ledger>(
         &mut self,
         searching: &Searching,
@@ -83,8 +81,6 @@ impl Tables {
         if !self.has_all(named) {
             return Ok(Unmet::UnknownFile.into());
         }
-        library_machine::records_stay_fit();
-        file_records::search_laws();
         let distance = searching.distance;
         let files = self.files.rising(named, distance, steps)?;
         let left = self.waiting_after(files.as_slice(), distance, steps);
@@ -113,6 +109,7 @@ impl Tables {
     }
 
     // How many files wait to be searched once these are, whose searched distance rises.
+    #[tactic(auto, using(file_records::specs::QueueLaws::queue_stays))]
     fn waiting_after<L: Ledger>(
         &self,
         risen: &[FileNo],
@@ -125,7 +122,6 @@ impl Tables {
             → result ≡ length (queue_of self.now.distance (searched distance named self.now.files.rows)) }
         ensures reads { steps.new ≤ steps.old + length risen.now }
     {
-        file_records::search_laws();
         let waiting = self.upkeep.queue_len();
         if distance.bits() < self.distance.bits() {
             return waiting;
@@ -186,13 +182,13 @@ impl Tables {
         self.distance = plan.distance;
     }
 
+    #[tactic(auto, using(file_records::specs::SearchLaws::same_length, file_records::specs::SearchLaws::words))]
     pub(crate) fn commit_search(&mut self, plan: PlannedSearch)
         requires { (after : Records) × LeadsSearch plan self.old after }
         ensures records { (after : Records) → LeadsSearch plan self.old after → records_of self.new ≡ after }
         ensures tree { marked_tree self.new ≡ marked_tree self.old }
         ensures words { HasWords self.new.tree.rows (records_of self.new) }
     {
-        file_records::search_laws();
         let library = self.distance;
         let risen = plan.files.as_slice();
         note_searched(
@@ -214,6 +210,7 @@ fn counted(searched: u64, left: u64) -> Answer
 
 // Notes that these files are searched within a distance, and takes those out of the queue of the library's
 // distance that were searched far enough.
+#[tactic(auto, using(file_records::specs::SearchLaws::same_length, file_records::specs::SearchLaws::none))]
 fn note_searched(
     files: &mut Files,
     upkeep: &mut Upkeep,
@@ -227,8 +224,6 @@ fn note_searched(
     ensures queued { upkeep.new.queue ≡ queue_of library files.new.rows }
     ensures marks { upkeep.new.marks ≡ upkeep.old.marks }
 {
-    file_records::search_laws();
-    tree_upkeep::laws();
     for file in found {
         files.set_searched(*file, distance);
         if library.bits() <= distance.bits() {

@@ -83,7 +83,6 @@ impl Tables {
         ensures tree { result.tree.rows ≡ [] }
         ensures marks { result.work.marks ≡ [] }
     {
-        library_machine::records_stay_fit();
         Tables {
             alloc,
             files: Files::new(alloc),

@@ -58,7 +58,6 @@ impl Tables {
         if count >= MAX_SERVICES as u8 {
             return Ok(Unmet::FullServices.into());
         }
-        library_machine::records_stay_fit();
         Ok(Prepared::Ready(
             TablesPlan::Service,
             Answer::Service(ServiceNo(count)),
@@ -82,7 +81,6 @@ impl Tables {
         if *self.services.orders(service) == *orders {
             return Ok(Prepared::Idle(answer));
         }
-        library_machine::records_stay_fit();
         let plan = PlannedOrders {
             service,
             orders: *orders,
@@ -157,7 +155,6 @@ impl Tables {
         if is_so {
             return Ok(Prepared::Idle(answer));
         }
-        library_machine::records_stay_fit();
         let plan = self.ready_mapping(mapping)?;
         Ok(Prepared::Ready(TablesPlan::Mapping(plan), answer))
     }
@@ -183,7 +180,6 @@ impl Tables {
         if is_so {
             return Ok(Prepared::Idle(answer));
         }
-        library_machine::records_stay_fit();
         let plan = self.ready_mapping(mapping)?;
         Ok(Prepared::Ready(TablesPlan::Mapping(plan), answer))
     }

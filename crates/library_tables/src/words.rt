@@ -80,7 +80,6 @@ pub fn place_words<L: Ledger>(
     ensures queue_spare { upkeep.new.spare ≡ upkeep.old.spare }
     ensures steps { words_planned plans.items ≡ [] → steps.new ≡ steps.old }
 {
-    vp_tree::placing_laws();
     for plan in plans {
         place_word(tree, upkeep, plan, steps);
     }

@@ -6,19 +6,13 @@ use Rattle.media_types.specs.declared.numbers.FileNo.{FileNo}
 use Rattle.file_records.specs.Distances.{least_distance}
 use Rattle.file_records.specs.Near.{distance_at, hashes_at, if_reached, near_at}
 use Rattle.file_records.specs.Searching.{is_named, is_short_of, passes, raised, reaches, rising, searched}
+use Rattle.file_records.specs.SearchLaws.{each, named_in_rising, unchanged}
 use Rattle.file_records.specs.declared.file_row.FileRow.{FileRow}
 
--- ---- what the laws of searches say
-abbrev pub Each : Type 0
-Each = (d : ℕ) (named : List FileNo) (rows : List FileRow) (k : ℕ) → slice_get (searched d named rows) k ≡ option_map (λ row. if is_named named k then raised d row else row) (slice_get rows k)
-
-abbrev pub Rises : Type 0
-Rises = (d : ℕ) (named : List FileNo) (rows : List FileRow) (k : ℕ) → is_named (rising d named rows) k ≡ (is_named named k && passes (is_short_of d) rows k)
-
 -- a risen file was searched within less, or never
-pub short_if_risen : Rises → (d : ℕ) (rows : List FileRow) (risen : List FileNo) (k : ℕ) → (named : List FileNo) × (risen ≡ rising d named rows) → is_named risen k ≡ true → passes (is_short_of d) rows k ≡ true
-short_if_risen rises d rows risen k (named, is) there =
-    (and_parts (is_named named k) (passes (is_short_of d) rows k) (sym (rises d named rows k) ∙ ap (λ fs. is_named fs k) (sym is) ∙ there)).1
+pub short_if_risen : (d : ℕ) (rows : List FileRow) (risen : List FileNo) (k : ℕ) → (named : List FileNo) × (risen ≡ rising d named rows) → is_named risen k ≡ true → passes (is_short_of d) rows k ≡ true
+short_if_risen d rows risen k (named, is) there =
+    (and_parts (is_named named k) (passes (is_short_of d) rows k) (sym (named_in_rising d named rows k) ∙ ap (λ fs. is_named fs k) (sym is) ∙ there)).1
 
 -- ---- one row
 hashes_stay : (d : ℕ) (named : Bool) (row : Option FileRow) → option_map_or (λ r. r.hashes) (option_map (λ r. if named then raised d r else r) row) [] ≡ option_map_or (λ r. r.hashes) row []
@@ -34,12 +28,8 @@ reach_of_short : (d m : ℕ) (row : Option FileRow) → option_map_or (is_short_
 reach_of_short d m None short = absurd (false≢true short)
 reach_of_short d m (Some row) short = within_far d m row.searched short
 
-same_row : (row : Option FileRow) → option_map (λ r. r) row ≡ row
-same_row None = refl
-same_row (Some row) = refl
-
 -- ---- the rows after a search
-module _ (each : Each) (d : ℕ) (risen : List FileNo) (rows : List FileRow) where
+module _ (d : ℕ) (risen : List FileNo) (rows : List FileRow) where
   pub same_hashes : (k : ℕ) → hashes_at (searched d risen rows) k ≡ hashes_at rows k
   same_hashes k = ap (λ row. option_map_or (λ r. r.hashes) row []) (each d risen rows k) ∙ hashes_stay d (is_named risen k) (slice_get rows k)
 
@@ -53,7 +43,7 @@ module _ (each : Each) (d : ℕ) (risen : List FileNo) (rows : List FileRow) whe
       ∙ reach_of_short d m (slice_get rows k) short
 
   pub same_other : (k : ℕ) → is_named risen k ≡ false → slice_get (searched d risen rows) k ≡ slice_get rows k
-  same_other k other = each d risen rows k ∙ ap (λ b. option_map (λ row. if b then raised d row else row) (slice_get rows k)) other ∙ same_row (slice_get rows k)
+  same_other k other = each d risen rows k ∙ ap (λ b. option_map (λ row. if b then raised d row else row) (slice_get rows k)) other ∙ unchanged (slice_get rows k)
 
   pub other_reach : (k m : ℕ) (row : FileRow) → is_named risen k ≡ false → slice_get rows k ≡ Some row → passes (reaches m) (searched d risen rows) k ≡ option_map_or (nat_le m) row.searched false
   other_reach k m row other is = ap (λ r. option_map_or (reaches m) r false) (same_other k other ∙ is)

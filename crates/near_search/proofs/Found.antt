@@ -15,7 +15,9 @@ use Rattle.media_types.specs.declared.hash.Hash64.{Hash64}
 use Rattle.media_types.specs.declared.numbers.FileNo.{FileNo}
 use Rattle.media_types.specs.declared.numbers.HashNo.{HashNo}
 use Rattle.file_records.specs.Distances.{distances}
+use Rattle.file_records.specs.HeldLaws as held
 use Rattle.file_records.specs.Near.{distance_at, hashes_at, if_reached, near_at}
+use Rattle.file_records.specs.NearLaws.{near_symmetric}
 use Rattle.file_records.specs.Searching.{is_named, is_short_of, passes, reaches, searched}
 use Rattle.file_records.specs.Words.{has_hash, has_number, words_of}
 use Rattle.file_records.specs.declared.file_row.FileRow.{FileRow}
@@ -24,7 +26,7 @@ use Rattle.vp_tree.specs.Searching.{filter_of, hit}
 use Rattle.vp_tree.specs.declared.node.NodeView.{NodeView}
 use Rattle.potential_pairs.specs.Planning.{Found}
 use Rattle.near_search.specs.Noting.{holders_of, near_pair, noted_at, noted_near, noted_of, pair_of}
-use Rattle.near_search.proofs.AfterSearch.{Each, risen_reach, same_distance}
+use Rattle.near_search.proofs.AfterSearch.{risen_reach, same_distance}
 use Rattle.near_search.proofs.Lists.{All-filter_map, All-flat_map, Contains-filter, Contains-filter_map, Contains-flat_map}
 use Rattle.near_search.proofs.NearPairs.{not_itself, pair_if_near}
 
@@ -94,9 +96,6 @@ pub record IsNoted (rows : List FileRow) (d : ℕ) (x : Found) : Type 0 where
   pub within : x.2 ≤ d
   pub near : near_at rows x.0.0 x.1.0 ≡ Some x.2
 
-abbrev pub Symmetric : Type 0
-Symmetric = (rows : List FileRow) (f g : ℕ) → near_at rows f g ≡ near_at rows g f
-
 pair_is_noted : (rows : List FileRow) (d : ℕ) (f g : FileNo) (away : ℕ) → (f.0 ≡ g.0 → ⊥) → away ≤ d → near_at rows f.0 g.0 ≡ Some away → near_at rows g.0 f.0 ≡ Some away → IsNoted rows d (pair_of f g away)
 pair_is_noted rows d f g away differ within near turned =
     let f_there = there_if_passes (reaches away) rows f.0 (near_parts rows f.0 g.0 away near).1 in
@@ -113,19 +112,15 @@ pub record IsRisen (rows : List FileRow) (d : ℕ) (risen : List FileNo) (f : �
   pub named : is_named risen f ≡ true
   pub short : passes (is_short_of d) rows f ≡ true
 
--- what the law of hashes says of their numbers
-abbrev pub Numbered : Type 0
-Numbered = (rows : List FileRow) (k : ℕ) (hash : Hash64) → Contains (hashes_at rows k) hash → (h : ℕ) × (slice_get (words_of rows) h ≡ Some hash) × (has_hash h rows k ≡ true)
-
 abbrev numbered : ℕ → FileNo
 numbered k = record { 0 = k }
 
-module _ (each : Each) (symmetric : Symmetric) (tree : List NodeView) (rows : List FileRow) (d : ℕ) (risen : List FileNo) where
+module _ (tree : List NodeView) (rows : List FileRow) (d : ℕ) (risen : List FileNo) where
   abbrev now : List FileRow
   now = searched d risen rows
 
   within_search : (f g away : ℕ) → IsRisen rows d risen f → near_at now f g ≡ Some away → away ≤ d
-  within_search f g away is near = leb-true away d (sym (risen_reach each d risen rows f away is.named is.short) ∙ (near_parts now f g away near).1)
+  within_search f g away is near = leb-true away d (sym (risen_reach d risen rows f away is.named is.short) ∙ (near_parts now f g away near).1)
 
   noted_pair : (f : FileNo) → IsRisen rows d risen f.0 → (g : FileNo) (x : Found) → near_pair now f g ≡ Some x → IsNoted now d x
   noted_pair f is g x pair = elim (cases_eq f.0 g.0) [
@@ -136,7 +131,7 @@ module _ (each : Each) (symmetric : Symmetric) (tree : List NodeView) (rows : Li
       by_distance : (found : Option ℕ) → near_at now f.0 g.0 ≡ found → (f.0 ≡ g.0 → ⊥) → option_map (pair_of f g) found ≡ Some x → IsNoted now d x
       by_distance None near differ none = absurd (false≢true (ap is_some none))
       by_distance (Some away) near differ some = subst (IsNoted now d) (same_Some (pair_of f g away) x some)
-          (pair_is_noted now d f g away differ (within_search f.0 g.0 away is near) near (symmetric now g.0 f.0 ∙ near))
+          (pair_is_noted now d f g away differ (within_search f.0 g.0 away is near) near (near_symmetric now g.0 f.0 ∙ near))
 
   pub all_noted : All (λ f. IsRisen rows d risen f.0) risen → All (IsNoted now d) (flat_map (noted_of tree rows d risen) risen)
   all_noted all =
@@ -169,12 +164,12 @@ module _ (each : Each) (symmetric : Symmetric) (tree : List NodeView) (rows : Li
       subst (Contains (holders_of rows h)) at
       (Contains-filter (λ (f : FileNo). has_hash h rows f.0) (files n) g.0 g (omega (arith, length-map-range_with_len numbered 0 n)) (ap (λ (f : FileNo). has_hash h rows f.0) at ∙ has))
 
-  pub is_met : Numbered → words_in tree ≡ words_of rows → (f g : FileNo) (away : ℕ) → Contains risen f → IsRisen rows d risen f.0 → (f.0 ≡ g.0 → ⊥) → near_at now f.0 g.0 ≡ Some away
+  pub is_met : words_in tree ≡ words_of rows → (f g : FileNo) (away : ℕ) → Contains risen f → IsRisen rows d risen f.0 → (f.0 ≡ g.0 → ⊥) → near_at now f.0 g.0 ≡ Some away
       → Contains (flat_map (noted_of tree rows d risen) risen) (pair_of f g away)
-  is_met numbers same f g away member is differ near =
-      let distance : distance_at rows f.0 g.0 ≡ Some away = sym (same_distance each d risen rows f.0 g.0) ∙ (near_parts now f.0 g.0 away near).0 in
+  is_met same f g away member is differ near =
+      let distance : distance_at rows f.0 g.0 ≡ Some away = sym (same_distance d risen rows f.0 g.0) ∙ (near_parts now f.0 g.0 away near).0 in
       let apart = any_apart (hashes_at rows f.0) (hashes_at rows g.0) away (least_is (distances (hashes_at rows f.0) (hashes_at rows g.0)) away distance) in
-      let (h, at, has) = numbers rows g.0 apart.second apart.of_second in
+      let (h, at, has) = held.numbered rows g.0 apart.second apart.of_second in
       let word = word_at h apart.second same at in
       let close : distance_of apart.first (node_at tree h).word ≤ d = omega (arith, within_search f.0 g.0 away is near, ap (distance_of apart.first) word.1, apart.apart) in
       let pair = pair_of f g away in

@@ -6,16 +6,12 @@ use Rattle.std.specs.Option.{is_some, option_map_or, option_to_list}
 use Rattle.std.proofs.lemmas.Bool.{and_parts, and_right, ltb-true, le-ltb, lt-ltb}
 use Rattle.std.proofs.lemmas.List.Elements.{filter_map-append}
 use Rattle.std.proofs.lemmas.Option.{same_Some}
+use Rattle.spare_tables.specs.KeyLaws.{by_test}
 use Rattle.media_types.specs.Numbered.{is_past}
 use Rattle.media_types.specs.declared.numbers.FileNo.{FileNo}
 use Rattle.file_records.specs.declared.file_row.FileRow.{FileRow}
 use Rattle.file_records.specs.Words.{has_hash, next_with}
 use Rattle.near_search.specs.Noting.{holders_of}
-
--- both cases of a test
-by_test : {P : Type 0} (b : Bool) → (b ≡ true → P) → (b ≡ false → P) → P
-by_test true passes fails = passes refl
-by_test false passes fails = fails refl
 
 abbrev numbered : ℕ → FileNo
 numbered k = record { 0 = k }

@@ -12,11 +12,16 @@ use Rattle.std.proofs.lemmas.List.{get_or_default}
 use Rattle.std.proofs.lemmas.List.Folds.{Any-from_list_any, list_any_at}
 use Rattle.std.proofs.lemmas.Option.{same_Some}
 use Rattle.spare_tables.specs.Keys.{value_of}
-use Rattle.spare_tables.specs.Order.{pair_cmp}
-use Rattle.spare_tables.specs.Pairs.{pairs_below, value_below}
+use Rattle.spare_tables.specs.BelowLaws.{below_sorted, below_value, same_values}
+use Rattle.spare_tables.specs.EditLaws.{sorted-insert_entry, value_put, value_put_other}
+use Rattle.spare_tables.specs.Order.{pair_cmp, pair_exact}
+use Rattle.spare_tables.specs.PairLaws.{pair_order}
+use Rattle.spare_tables.specs.Pairs.{value_below}
 use Rattle.media_types.specs.declared.limits.TheConstants.{MAX_DISTANCE}
 use Rattle.media_types.specs.declared.numbers.FileNo.{FileNo}
 use Rattle.file_records.specs.Near.{distance_at, if_reached, near_at, near_pairs}
+use Rattle.file_records.specs.NearLaws.{near_symmetric}
+use Rattle.file_records.specs.SearchLaws.{each, same_length}
 use Rattle.file_records.specs.Searching.{is_named, passes, raised, reaches, searched}
 use Rattle.file_records.specs.Words.{words_of}
 use Rattle.file_records.specs.declared.file_row.FileRow.{FileRow}
@@ -24,21 +29,11 @@ use Rattle.vp_tree.specs.Nodes.{words_in}
 use Rattle.vp_tree.specs.declared.node.NodeView.{NodeView}
 use Rattle.potential_pairs.specs.Planning.{AreFound, Found, IsFound, with_found}
 use Rattle.near_search.specs.Noting.{IsRise, noted_of, pair_of}
-use Rattle.near_search.proofs.AfterSearch.{Each, Rises, short_if_risen, same_distance, same_other, near_by_distance}
-use Rattle.near_search.proofs.Found.{IsNoted, IsRisen, Numbered, Symmetric, all_noted, is_met, near_parts}
+use Rattle.near_search.proofs.AfterSearch.{short_if_risen, same_distance, same_other, near_by_distance}
+use Rattle.near_search.proofs.Found.{IsNoted, IsRisen, all_noted, is_met, near_parts}
 
--- ---- what the laws of rows say
 abbrev Rows : Type 0
 Rows = List ((ℕ × ℕ) × ℕ)
-
-pub record RowLaws : Type 0 where
-  pub put_this : (rows : Rows) (key : ℕ × ℕ) (value : ℕ) → value_of pair_cmp (insert_entry pair_cmp rows key value) key ≡ Some value
-  pub put_others : (rows : Rows) (key q : ℕ × ℕ) (value : ℕ) → q ≢ key → value_of pair_cmp (insert_entry pair_cmp rows key value) q ≡ value_of pair_cmp rows q
-  pub put_sorted : (rows : Rows) (key : ℕ × ℕ) (value : ℕ) → IsStrictlySortedBy pair_cmp (keys_of rows) → IsStrictlySortedBy pair_cmp (keys_of (insert_entry pair_cmp rows key value))
-  pub same_rows : (xs ys : Rows) → IsStrictlySortedBy pair_cmp (keys_of xs) → IsStrictlySortedBy pair_cmp (keys_of ys)
-      → ((j k : ℕ) → value_of pair_cmp xs (j, k) ≡ value_of pair_cmp ys (j, k)) → xs ≡ ys
-  pub below_sorted : (n : ℕ) (value : ℕ → ℕ → Option ℕ) → IsStrictlySortedBy pair_cmp (keys_of (pairs_below n value))
-  pub below_value : (n : ℕ) (value : ℕ → ℕ → Option ℕ) (j k : ℕ) → value_of pair_cmp (pairs_below n value) (j, k) ≡ (if nat_lt k n then value_below value j k else None)
 
 -- ---- rows and found pairs
 abbrev name_in : Found → ℕ × ℕ
@@ -53,48 +48,47 @@ same_name x y = elim (cases_eq x.0 y.0) [
   ]
 ]
 
-sorted-with_found : RowLaws → (found : List Found) (near : Rows) → IsStrictlySortedBy pair_cmp (keys_of near) → IsStrictlySortedBy pair_cmp (keys_of (with_found found near))
-sorted-with_found laws [] near sorted = sorted
-sorted-with_found laws (x ∷ more) near sorted = sorted-with_found laws more (insert_entry pair_cmp near (name_in x) x.2) (laws.put_sorted near (name_in x) x.2 sorted)
+sorted-with_found : (found : List Found) (near : Rows) → IsStrictlySortedBy pair_cmp (keys_of near) → IsStrictlySortedBy pair_cmp (keys_of (with_found found near))
+sorted-with_found [] near sorted = sorted
+sorted-with_found (x ∷ more) near sorted = sorted-with_found more (insert_entry pair_cmp near (name_in x) x.2) (sorted-insert_entry pair_order near (name_in x) x.2 sorted)
 
 -- a name has the value that all found pairs of it have, where it had it already or was found
-value-with_found : RowLaws → (found : List Found) (near : Rows) (q : ℕ × ℕ) (value : Option ℕ) → All (λ x. q ≡ name_in x → Some x.2 ≡ value) found
+value-with_found : (found : List Found) (near : Rows) (q : ℕ × ℕ) (value : Option ℕ) → All (λ x. q ≡ name_in x → Some x.2 ≡ value) found
     → (value_of pair_cmp near q ≡ value) ⊎ ((x : Found) × Contains found x × (q ≡ name_in x)) → value_of pair_cmp (with_found found near) q ≡ value
-value-with_found laws [] near q value all (inl had) = had
-value-with_found laws [] near q value all (inr (x, member, is)) = absurd (omega (arith, member.1))
-value-with_found laws (x ∷ more) near q value all either =
+value-with_found [] near q value all (inl had) = had
+value-with_found [] near q value all (inr (x, member, is)) = absurd (omega (arith, member.1))
+value-with_found (x ∷ more) near q value all either =
     let P : Found → Type 0 = λ y. q ≡ name_in y → Some y.2 ≡ value in
     let rows = insert_entry pair_cmp near (name_in x) x.2 in
-    value-with_found laws more rows q value (All-tail P x more all) (elim (same_name q (name_in x)) [
-      | inl same ↦ inl (ap (value_of pair_cmp rows) same ∙ laws.put_this near (name_in x) x.2 ∙ All-head P x more all same)
+    value-with_found more rows q value (All-tail P x more all) (elim (same_name q (name_in x)) [
+      | inl same ↦ inl (ap (value_of pair_cmp rows) same ∙ value_put pair_order (name_in x) x.2 near ∙ All-head P x more all same)
       | inr other ↦ elim either [
-        | inl had ↦ inl (laws.put_others near (name_in x) q x.2 other ∙ had)
+        | inl had ↦ inl (value_put_other pair_order pair_exact q (name_in x) x.2 near other ∙ had)
         | inr (y, (zero, within, is), named) ↦ absurd (other (named ∙ ap name_in (sym is)))
         | inr (y, (suc k, within, is), named) ↦ inr (y, (k, omega arith, is), named)
       ]
     ])
 
 -- ---- near before, near after
-module _ (laws : RowLaws) where
-  -- the value of a pair of two files among the near ones
-  near_value : (rows : List FileRow) (j k : ℕ) → j < k → k < length rows → value_of pair_cmp (near_pairs rows) (j, k) ≡ near_at rows j k
-  near_value rows j k lower within =
-      laws.below_value (length rows) (near_at rows) j k
-      ∙ ap (λ b. if b then value_below (near_at rows) j k else None) (lt-ltb k (length rows) within)
-      ∙ ap (λ b. if b then near_at rows j k else None) (lt-ltb j k lower)
+-- the value of a pair of two files among the near ones
+near_value : (rows : List FileRow) (j k : ℕ) → j < k → k < length rows → value_of pair_cmp (near_pairs rows) (j, k) ≡ near_at rows j k
+near_value rows j k lower within =
+    below_value (length rows) (near_at rows) j k
+    ∙ ap (λ b. if b then value_below (near_at rows) j k else None) (lt-ltb k (length rows) within)
+    ∙ ap (λ b. if b then near_at rows j k else None) (lt-ltb j k lower)
 
-  no_value : (rows : List FileRow) (j k : ℕ) → (k ≤ j) ⊎ (length rows ≤ k) → value_of pair_cmp (near_pairs rows) (j, k) ≡ None
-  no_value rows j k (inr past) = laws.below_value (length rows) (near_at rows) j k ∙ ap (λ b. if b then value_below (near_at rows) j k else None) (le-ltb k (length rows) past)
-  no_value rows j k (inl higher) =
-      laws.below_value (length rows) (near_at rows) j k
-      ∙ ap (λ (found : Option ℕ). if nat_lt k (length rows) then found else None) (ap (λ b. if b then near_at rows j k else None) (le-ltb j k higher))
-      ∙ either_none (nat_lt k (length rows))
-    where
-      either_none : (b : Bool) → ◌≡◌ {A = Option ℕ} (if b then None else None) None
-      either_none true = refl
-      either_none false = refl
+no_value : (rows : List FileRow) (j k : ℕ) → (k ≤ j) ⊎ (length rows ≤ k) → value_of pair_cmp (near_pairs rows) (j, k) ≡ None
+no_value rows j k (inr past) = below_value (length rows) (near_at rows) j k ∙ ap (λ b. if b then value_below (near_at rows) j k else None) (le-ltb k (length rows) past)
+no_value rows j k (inl higher) =
+    below_value (length rows) (near_at rows) j k
+    ∙ ap (λ (found : Option ℕ). if nat_lt k (length rows) then found else None) (ap (λ b. if b then near_at rows j k else None) (le-ltb j k higher))
+    ∙ either_none (nat_lt k (length rows))
+  where
+    either_none : (b : Bool) → ◌≡◌ {A = Option ℕ} (if b then None else None) None
+    either_none true = refl
+    either_none false = refl
 
-module _ (each : Each) (d : ℕ) (risen : List FileNo) (rows : List FileRow) where
+module _ (d : ℕ) (risen : List FileNo) (rows : List FileRow) where
   abbrev now : List FileRow
   now = searched d risen rows
 
@@ -115,7 +109,7 @@ module _ (each : Each) (d : ℕ) (risen : List FileNo) (rows : List FileRow) whe
   stays_near : (f g away : ℕ) → near_at rows f g ≡ Some away → near_at now f g ≡ Some away
   stays_near f g away near =
       let parts = near_parts rows f g away near in
-      near_by_distance each d risen rows f g (Some away) parts.0
+      near_by_distance d risen rows f g (Some away) parts.0
       ∙ ap (λ b. if b then Some away else None) (and_from (passes (reaches away) now f) (passes (reaches away) now g) (still_reaches f away parts.1) (still_reaches g away parts.2))
 
   never_near : (f g : ℕ) → near_at now f g ≡ None → near_at rows f g ≡ None
@@ -128,17 +122,17 @@ module _ (each : Each) (d : ℕ) (risen : List FileNo) (rows : List FileRow) whe
   -- two files whose distances don't rise are as near as they were
   same_near : (f g : ℕ) → is_named risen f ≡ false → is_named risen g ≡ false → near_at now f g ≡ near_at rows f g
   unfolding near_at
-  same_near f g f_other g_other = by_distance (distance_at rows f g) (same_distance each d risen rows f g)
+  same_near f g f_other g_other = by_distance (distance_at rows f g) (same_distance d risen rows f g)
     where
       by_distance : (found : Option ℕ) → distance_at now f g ≡ found → if_reached now f g (distance_at now f g) ≡ if_reached rows f g found
       by_distance found is = ap (if_reached now f g) is ∙ by_reach found
         where
           by_reach : (given : Option ℕ) → if_reached now f g given ≡ if_reached rows f g given
           by_reach None = refl
-          by_reach (Some away) = λ i. if option_map_or (reaches away) (same_other each d risen rows f f_other i) false && option_map_or (reaches away) (same_other each d risen rows g g_other i) false then Some away else None
+          by_reach (Some away) = λ i. if option_map_or (reaches away) (same_other d risen rows f f_other i) false && option_map_or (reaches away) (same_other d risen rows g g_other i) false then Some away else None
 
 -- ---- the noted pairs among the near ones
-module _ (laws : RowLaws) (each : Each) (symmetric : Symmetric) (numbers : Numbered) (tree : List NodeView) (rows : List FileRow) (d : ℕ) (risen : List FileNo) where
+module _ (tree : List NodeView) (rows : List FileRow) (d : ℕ) (risen : List FileNo) where
   abbrev after : List FileRow
   after = searched d risen rows
 
@@ -155,44 +149,44 @@ module _ (laws : RowLaws) (each : Each) (symmetric : Symmetric) (numbers : Numbe
         (found.0, found.2, get_or_default risen found.0 (numbered_file k) found.1 found.2 ∙ found.3 ∙ ap numbered_file (eqb-true found.1.0 k found.4))
 
     found_from : (f g away : ℕ) → is_named risen f ≡ true → (f ≡ g → ⊥) → near_at after f g ≡ Some away → Contains all_found (pair_of (numbered_file f) (numbered_file g) away)
-    found_from f g away there differ near = is_met each symmetric tree rows d risen numbers words (numbered_file f) (numbered_file g) away (risen_member f there) (short f there) differ near
+    found_from f g away there differ near = is_met tree rows d risen words (numbered_file f) (numbered_file g) away (risen_member f there) (short f there) differ near
 
     -- the pair was as near before, or it is found
     as_before_or_found : (j k : ℕ) → j < k → (near_at rows j k ≡ near_at after j k) ⊎ ((x : Found) × Contains all_found x × ((j, k) ≡ name_in x))
     as_before_or_found j k lower = by_distance (near_at after j k) refl
       where
         by_distance : (found : Option ℕ) → near_at after j k ≡ found → (near_at rows j k ≡ near_at after j k) ⊎ ((x : Found) × Contains all_found x × ((j, k) ≡ name_in x))
-        by_distance None none = inl (never_near each d risen rows j k none ∙ sym none)
+        by_distance None none = inl (never_near d risen rows j k none ∙ sym none)
         by_distance (Some away) near = elim (cases_Bool (is_named risen j)) [
           | inl there ↦ inr (_, found_from j k away there (λ same. omega arith) near, ap (λ b. name_in (if b then (numbered_file j, numbered_file k, away) else (numbered_file k, numbered_file j, away))) (sym (lt-ltb j k lower)))
           | inr other ↦ elim (cases_Bool (is_named risen k)) [
-            | inl there ↦ inr (_, found_from k j away there (λ same. omega arith) (symmetric after k j ∙ near), ap (λ b. name_in (if b then (numbered_file k, numbered_file j, away) else (numbered_file j, numbered_file k, away))) (sym (le-ltb k j (omega arith))))
-            | inr neither ↦ inl (sym (same_near each d risen rows j k other neither))
+            | inl there ↦ inr (_, found_from k j away there (λ same. omega arith) (near_symmetric after k j ∙ near), ap (λ b. name_in (if b then (numbered_file k, numbered_file j, away) else (numbered_file j, numbered_file k, away))) (sym (le-ltb k j (omega arith))))
+            | inr neither ↦ inl (sym (same_near d risen rows j k other neither))
           ]
         ]
 
     found_value : (j k : ℕ) (x : Found) → IsNoted after d x → (j, k) ≡ name_in x → Some x.2 ≡ value_of pair_cmp (near_pairs after) (j, k)
     found_value j k x is same =
-        sym (ap (value_of pair_cmp (near_pairs after)) same ∙ near_value laws after x.0.0 x.1.0 is.lower is.there ∙ is.near)
+        sym (ap (value_of pair_cmp (near_pairs after)) same ∙ near_value after x.0.0 x.1.0 is.lower is.there ∙ is.near)
 
     value_after : (j k : ℕ) → value_of pair_cmp (with_found all_found (near_pairs rows)) (j, k) ≡ value_of pair_cmp (near_pairs after) (j, k)
-    value_after j k = value-with_found laws all_found (near_pairs rows) (j, k) (value_of pair_cmp (near_pairs after) (j, k))
+    value_after j k = value-with_found all_found (near_pairs rows) (j, k) (value_of pair_cmp (near_pairs after) (j, k))
         (All-weaker (IsNoted after d) (λ x. (j, k) ≡ name_in x → Some x.2 ≡ value_of pair_cmp (near_pairs after) (j, k)) (found_value j k) all_found noted)
         (elim (cases_lt j k) [
-          | inr higher ↦ inl (no_value laws rows j k (inl higher) ∙ sym (no_value laws after j k (inl higher)))
+          | inr higher ↦ inl (no_value rows j k (inl higher) ∙ sym (no_value after j k (inl higher)))
           | inl lower ↦ elim (cases_lt k (length rows)) [
-            | inr past ↦ inl (no_value laws rows j k (inr past) ∙ sym (no_value laws after j k (inr (omega arith))))
+            | inr past ↦ inl (no_value rows j k (inr past) ∙ sym (no_value after j k (inr (omega arith))))
             | inl within ↦ elim (as_before_or_found j k lower) [
-              | inl same ↦ inl (near_value laws rows j k lower within ∙ same ∙ sym (near_value laws after j k lower (omega arith)))
+              | inl same ↦ inl (near_value rows j k lower within ∙ same ∙ sym (near_value after j k lower (omega arith)))
               | inr found ↦ inr found
             ]
           ]
         ])
 
     pub near_after : with_found all_found (near_pairs rows) ≡ near_pairs after
-    near_after = laws.same_rows (with_found all_found (near_pairs rows)) (near_pairs after)
-        (sorted-with_found laws all_found (near_pairs rows) (laws.below_sorted (length rows) (near_at rows)))
-        (laws.below_sorted (length after) (near_at after)) value_after
+    near_after = same_values (with_found all_found (near_pairs rows)) (near_pairs after)
+        (sorted-with_found all_found (near_pairs rows) (below_sorted (length rows) (near_at rows)))
+        (below_sorted (length after) (near_at after)) value_after
 
     is_found : d ≤ MAX_DISTANCE → (x : Found) → IsNoted after d x → IsFound (length rows) (near_pairs rows) x
     is_found shallow x is = record {
@@ -200,7 +194,7 @@ module _ (laws : RowLaws) (each : Each) (symmetric : Symmetric) (numbers : Numbe
       there = omega (arith, is.there);
       shallow = omega (arith, is.within);
       same = λ e before.
-          let near = stays_near each d risen rows x.0.0 x.1.0 e (sym (near_value laws rows x.0.0 x.1.0 is.lower (omega (arith, is.there))) ∙ before) in
+          let near = stays_near d risen rows x.0.0 x.1.0 e (sym (near_value rows x.0.0 x.1.0 is.lower (omega (arith, is.there))) ∙ before) in
           same_Some e x.2 (sym near ∙ is.near);
     }
 
@@ -213,20 +207,17 @@ module _ (laws : RowLaws) (each : Each) (symmetric : Symmetric) (numbers : Numbe
     }
 
 -- ---- a whole search
-abbrev pub SameLength : Type 0
-SameLength = (d : ℕ) (named : List FileNo) (rows : List FileRow) → length (searched d named rows) ≡ length rows
-
 named_at : (risen : List FileNo) → All (λ f. is_named risen f.0 ≡ true) risen
 named_at risen = λ k d within. list_any_at (λ f. f.0 == (get_or risen k d).0) risen k d within (eq-eqb (get_or risen k d).0 (get_or risen k d).0 refl)
 
-pub found_right : RowLaws → Each → Rises → SameLength → Symmetric → Numbered → (tree : List NodeView) (rows : List FileRow) (d : ℕ) (risen : List FileNo) → words_in tree ≡ words_of rows → IsRise d rows risen → d ≤ MAX_DISTANCE
+pub found_right : (tree : List NodeView) (rows : List FileRow) (d : ℕ) (risen : List FileNo) → words_in tree ≡ words_of rows → IsRise d rows risen → d ≤ MAX_DISTANCE
     → AreFound (length rows) (near_pairs rows) (flat_map (noted_of tree rows d risen) risen)
     × (with_found (flat_map (noted_of tree rows d risen) risen) (near_pairs rows) ≡ near_pairs (searched d risen rows))
-found_right laws each rises same_length symmetric numbers tree rows d risen words is shallow =
+found_right tree rows d risen words is shallow =
     let long = same_length d risen rows in
-    let short : (k : ℕ) → is_named risen k ≡ true → IsRisen rows d risen k = λ k named. record { named = named; short = short_if_risen rises d rows risen k is named } in
+    let short : (k : ℕ) → is_named risen k ≡ true → IsRisen rows d risen k = λ k named. record { named = named; short = short_if_risen d rows risen k is named } in
     let all = All-weaker (λ (f : FileNo). is_named risen f.0 ≡ true) (λ (f : FileNo). IsRisen rows d risen f.0) (λ f. short f.0) risen (named_at risen) in
-    let noted = all_noted each symmetric tree rows d risen all in (
-      are_found laws each symmetric numbers tree rows d risen words long short noted shallow,
-      near_after laws each symmetric numbers tree rows d risen words long short noted,
+    let noted = all_noted tree rows d risen all in (
+      are_found tree rows d risen words long short noted shallow,
+      near_after tree rows d risen words long short noted,
     )

@@ -5,11 +5,13 @@ use Rattle.std.proofs.lemmas.List.{flat_map_more, length-map, take_more}
 use Rattle.std.proofs.lemmas.List.Elements.{All-filter, All-map, All-weaker}
 use Rattle.std.proofs.lemmas.List.FromFn.{get_or-map-range_with_len, get_or-range_with_len, length-map-range_with_len, length-range_with_len}
 use Rattle.std.proofs.lemmas.List.Sums.{sum-map}
+use Rattle.spare_tables.specs.BelowLaws.{numbers_below}
 use Rattle.media_types.specs.Numbered.{files}
 use Rattle.media_types.specs.declared.hash.Hash64.{Hash64}
 use Rattle.media_types.specs.declared.numbers.FileNo.{FileNo}
 use Rattle.media_types.specs.declared.numbers.HashNo.{HashNo}
 use Rattle.file_records.specs.declared.file_row.FileRow.{FileRow}
+use Rattle.file_records.specs.HeldLaws.{held}
 use Rattle.file_records.specs.Near.{hashes_at}
 use Rattle.file_records.specs.Searching.{searched}
 use Rattle.file_records.specs.Words.{has_hash, words_of}
@@ -27,33 +29,26 @@ flat_more note start old new xs i d within so_far put =
     put ∙ ap (λ ys. ys ++ note (get_or xs i d)) so_far ∙ flat_map_more note start (take i xs) (get_or xs i d) ∙ ap (λ zs. start ++ flat_map note zs) (sym (take_more xs i d within))
 
 -- ---- each hit has a holder
--- what the law of hashes says of their numbers
-abbrev pub Held : Type 0
-Held = (rows : List FileRow) (h : ℕ) → h < length (words_of rows) → (k : ℕ) × (k < length rows) × (has_hash h rows k ≡ true)
-
 abbrev numbered : ℕ → FileNo
 numbered k = record { 0 = k }
 
-some_holder : Held → (rows : List FileRow) (h : ℕ) → h < length (words_of rows) → 1 ≤ holders rows h
-some_holder held rows h within =
+some_holder : (rows : List FileRow) (h : ℕ) → h < length (words_of rows) → 1 ≤ holders rows h
+some_holder rows h within =
     let (k, there, has) = held rows h within in
     let at : get_or (files (length rows)) k (numbered k) ≡ numbered k = get_or-map-range_with_len numbered 0 (length rows) k k (numbered k) there (omega arith) in
     let member = Contains-filter (λ f. has_hash h rows f.0) (files (length rows)) k (numbered k) (omega (arith, length-map-range_with_len numbered 0 (length rows)))
     (ap (λ (f : FileNo). has_hash h rows f.0) at ∙ has) in
     omega (arith, member.1)
 
-numbers_known : (n : ℕ) → All (λ k. k < n) (range_with_len 0 n)
-numbers_known n = λ k d within. omega (arith, within, length-range_with_len 0 n, get_or-range_with_len 0 n k d)
-
 hits_known : (tree : List NodeView) (word : Hash64) (d : ℕ) → All (λ h. h.0.0 < length tree) (filter_of tree word d)
 hits_known tree word d =
-    All-filter (λ (h : HashNo × ℕ). nat_le h.1 d) (λ h. h.0.0 < length tree) _ (All-map (λ (h : HashNo × ℕ). h.0.0 < length tree) (hit tree word) (range_with_len 0 (length tree)) (numbers_known (length tree)))
+    All-filter (λ (h : HashNo × ℕ). nat_le h.1 d) (λ h. h.0.0 < length tree) _ (All-map (λ (h : HashNo × ℕ). h.0.0 < length tree) (hit tree word) (range_with_len 0 (length tree)) (numbers_below (length tree)))
 
-pub holder_at : Held → (tree : List NodeView) (rows : List FileRow) (word : Hash64) (d : ℕ) → words_in tree ≡ words_of rows → (hits : List (HashNo × ℕ)) → hits ≡ filter_of tree word d
+pub holder_at : (tree : List NodeView) (rows : List FileRow) (word : Hash64) (d : ℕ) → words_in tree ≡ words_of rows → (hits : List (HashNo × ℕ)) → hits ≡ filter_of tree word d
     → All (λ h. 1 ≤ holders rows h.0.0) hits
-holder_at held tree rows word d same hits are = subst (All (λ (h : HashNo × ℕ). 1 ≤ holders rows h.0.0)) (sym are)
+holder_at tree rows word d same hits are = subst (All (λ (h : HashNo × ℕ). 1 ≤ holders rows h.0.0)) (sym are)
     (All-weaker (λ (h : HashNo × ℕ). h.0.0 < length tree) (λ (h : HashNo × ℕ). 1 ≤ holders rows h.0.0)
-    (λ h known. some_holder held rows h.0.0 (omega (arith, known, length-map tree (λ node. node.word), ap length same)))
+    (λ h known. some_holder rows h.0.0 (omega (arith, known, length-map tree (λ node. node.word), ap length same)))
     (filter_of tree word d) (hits_known tree word d))
 
 -- ---- sums

@@ -7,7 +7,7 @@ use Rattle.file_records.specs.Near.{distance_at, near_at}
 use Rattle.file_records.specs.Searching.{is_named, is_short_of, passes, reaches, searched}
 use Rattle.file_records.specs.declared.file_row.FileRow.{FileRow}
 use Rattle.near_search.specs.Noting.{near_pair, pair_of}
-use Rattle.near_search.proofs.AfterSearch.{Each, near_by_distance, near_by_reach}
+use Rattle.near_search.proofs.AfterSearch.{near_by_distance, near_by_reach}
 
 pub not_itself : (rows : List FileRow) (f g : FileNo) → f.0 ≡ g.0 → near_pair rows f g ≡ None
 unfolding near_pair
@@ -18,18 +18,18 @@ unfolding near_pair
 pair_if_near rows f g found differ is =
     ap (λ b. if b then None else option_map (pair_of f g) (near_at rows f.0 g.0)) (ne_eqb f.0 g.0 differ) ∙ ap (option_map (pair_of f g)) is
 
-module _ (each : Each) (d : ℕ) (risen : List FileNo) (rows : List FileRow) (f g : FileNo) (differ : f.0 ≡ g.0 → ⊥) where
+module _ (d : ℕ) (risen : List FileNo) (rows : List FileRow) (f g : FileNo) (differ : f.0 ≡ g.0 → ⊥) where
   abbrev now : List FileRow
   now = searched d risen rows
 
   pub no_distance : distance_at rows f.0 g.0 ≡ None → near_pair now f g ≡ None
-  no_distance is = pair_if_near now f g None differ (near_by_distance each d risen rows f.0 g.0 None is)
+  no_distance is = pair_if_near now f g None differ (near_by_distance d risen rows f.0 g.0 None is)
 
   module _ (away : ℕ) (far : Option ℕ) (is : distance_at rows f.0 g.0 ≡ Some away) (named : is_named risen f.0 ≡ true) (short : passes (is_short_of d) rows f.0 ≡ true)
       (reach : (m : ℕ) → passes (reaches m) now g.0 ≡ option_map_or (nat_le m) far false) where
     near_if : (b : Bool) → (nat_le away d && option_map_or (nat_le away) far false) ≡ b → near_pair now f g ≡ option_map (pair_of f g) (if b then Some away else None)
     near_if b reached = pair_if_near now f g (if b then Some away else None) differ
-        (near_by_reach each d risen rows f.0 g.0 away far is named short reach ∙ ap (λ t. if t then Some away else None) reached)
+        (near_by_reach d risen rows f.0 g.0 away far is named short reach ∙ ap (λ t. if t then Some away else None) reached)
 
     pub not_searched : far ≡ None → near_pair now f g ≡ None
     not_searched never = near_if false (and_right _ _ (ap (λ o. option_map_or (nat_le away) o false) never))

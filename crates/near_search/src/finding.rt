@@ -37,11 +37,6 @@ pub fn find_near<L: Ledger>(
     ensures reads { steps.new ≤ steps.old
         + 8 * (length risen.now + work tree.now.rows files.now.rows distance risen.now) }
 {
-    spare_tables::edit_laws();
-    spare_tables::row_laws();
-    file_records::hash_laws();
-    file_records::search_laws();
-    file_records::near_laws();
     let search = Search {
         files,
         tree,

@@ -36,7 +36,7 @@ impl Search<'_> {
         requires known { file.0 < length self.now.files.now.rows }
         ensures found { OnOk result (found.new ≡ found.old ++ noted_of self.now.tree.now.rows
             self.now.files.now.rows self.now.distance self.now.risen.now file) }
-        ensures reads { steps.new ≤ steps.old + (1 + 4 * met_of self.now.tree.now.rows
+        ensures reads { steps.new ≤ steps.old + (1 + 5 * met_of self.now.tree.now.rows
             self.now.files.now.rows self.now.distance file) }
     {
         let row = self.files.row(file, steps);
@@ -60,10 +60,9 @@ impl Search<'_> {
         requires known { file.0 < length self.now.files.now.rows }
         ensures found { OnOk result (found.new ≡ found.old ++ noted_near self.now.tree.now.rows
             self.now.files.now.rows self.now.distance self.now.risen.now file hash) }
-        ensures reads { steps.new ≤ steps.old + 4 * met self.now.tree.now.rows
+        ensures reads { steps.new ≤ steps.old + 5 * met self.now.tree.now.rows
             self.now.files.now.rows self.now.distance hash }
     {
-        file_records::hash_laws();
         let hits = self.tree.search(hash, u32::from(self.distance), steps)?;
         for (word, _) in hits.as_slice() {
             self.note_holders(file, *word, found, steps)?;
@@ -84,7 +83,7 @@ impl Search<'_> {
         requires known { file.0 < length self.now.files.now.rows }
         ensures found { OnOk result (found.new ≡ found.old ++ noted_at self.now.tree.now.rows
             self.now.files.now.rows self.now.distance self.now.risen.now file word.0) }
-        ensures reads { steps.new ≤ steps.old + (1 + 2 * holders self.now.files.now.rows word.0) }
+        ensures reads { steps.new ≤ steps.old + (1 + 4 * holders self.now.files.now.rows word.0) }
     {
         let mut after = None;
         while let Some(other) = self.files.files_of(word, after, steps) {
@@ -109,13 +108,12 @@ impl Search<'_> {
         requires other { other.0 < length self.now.files.now.rows }
         ensures pair { result ≡ near_pair (searched self.now.distance self.now.risen.now
             self.now.files.now.rows) file other }
-        ensures reads { steps.new ≤ steps.old + 1 }
+        ensures reads { steps.new ≤ steps.old + 3 }
     {
         if file.0 == other.0 {
             return None;
         }
-        file_records::search_laws();
-        let away = self.files.file_distance(file, other)?;
+        let away = self.files.file_distance(file, other, steps)?;
         let reach = self.searched_after(other, steps)?;
         if away > u32::from(reach.min(self.distance)) {
             return None;
@@ -131,7 +129,6 @@ impl Search<'_> {
             self.now.files.now.rows) file.0 ≡ option_map_or (nat_le d) result false }
         ensures reads { steps.new ≤ steps.old + 1 }
     {
-        file_records::search_laws();
         if self.risen.binary_search(&file).is_ok() {
             return Some(self.distance);
         }

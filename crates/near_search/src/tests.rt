@@ -114,11 +114,11 @@ fn are_known(named: &[FileNo], files: u32) -> bool
     named.iter().all(|file| file.0 < files)
 }
 
+#[tactic(auto, using(file_records::specs::SearchLaws::words, file_records::specs::SearchLaws::same_length))]
 fn set_searched(files: &mut Files, risen: &[FileNo], distance: SearchDistance)
     requires { All (λ file. file.0 < length files.old.rows) risen.now }
     ensures { words_of files.new.rows ≡ words_of files.old.rows }
 {
-    file_records::search_laws();
     for file in risen {
         files.set_searched(*file, distance);
     }
@@ -231,6 +231,7 @@ const CASES: [Case<'static>; 4] = [
     },
 ];
 
+#[tactic(auto, using(file_records::specs::SearchLaws::known))]
 fn assert_search<L: Ledger>(
     rt: &impl Abort,
     alloc: Global,
@@ -246,7 +247,6 @@ fn assert_search<L: Ledger>(
     let distance = SearchDistance::new(searched.within).expect(rt, "at most the greatest distance");
     let named = listed(alloc, searched.named)?;
     assert!(rt; are_known(named.as_slice(), files.len()));
-    file_records::search_laws();
     let risen = files.rising(named.as_slice(), distance, steps)?;
     let found = find_near(alloc, files, tree, risen.as_slice(), distance, steps)?;
     assert_pairs(rt, &found, searched.found, about);

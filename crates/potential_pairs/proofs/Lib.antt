@@ -15,4 +15,3 @@ pub mod Rows
 pub mod TallyRows
 pub mod Touched
 pub mod Unmoved
-pub mod Within

@@ -1,4 +1,4 @@
--- The rows of one first number stand together, and which pairs the rows of one file give, in either order.
+-- Which pairs the rows of one file give, in either order.
 use Rattle.std.proofs.Common.{◌≡◌, ◌∙◌, ◌≤◌, ◌+◌, ◌==◌, ◌||◌, ℕ, zero, suc, Bool, true, false, cond, leb, ltb, leb-true, leb-false, ltb-false, List, [], ◌∷◌, Option, Some, None, length, take, drop, filter, get_or, refl, sym, ap, subst, inl, inr, arith}
 use Rattle.std.specs.List.{AllWithin}
 use Rattle.std.specs.List.Sorted.{IsNonDecreasingBy}
@@ -17,55 +17,6 @@ use Rattle.potential_pairs.specs.Levels.{Ascend}
 use Rattle.potential_pairs.specs.Planning.{has_file, with_changes}
 use Rattle.potential_pairs.specs.Potential.{Row}
 use Rattle.potential_pairs.proofs.Rows.{AreApart, apart-from_ascend, ascend-filter, changed, same_name, sorted-with_changes, value-filter, value-with_changes, value_first, value_later}
-
--- ---- a stretch of a list
-module _ {X : Type 0} (test : X → Bool) where
-  none_passes : (xs : List X) → AllWithin (λ x. test x ≡ false) xs 0 (length xs) → filter test xs ≡ []
-  none_passes [] fails = refl
-  none_passes (x ∷ xs) fails =
-      let here : test x ≡ false = fails zero x (omega arith) (omega arith) in
-      rw here (none_passes xs (λ k d low high. fails (suc k) d (omega arith) (omega (arith, high))))
-
-  front_passes : (xs : List X) (n : ℕ) → n ≤ length xs → AllWithin (λ x. test x ≡ true) xs 0 n → AllWithin (λ x. test x ≡ false) xs n (length xs) → filter test xs ≡ take n xs
-  front_passes xs zero le passes fails = none_passes xs fails
-  front_passes [] (suc n) le passes fails = refl
-  front_passes (x ∷ xs) (suc n) le passes fails =
-      let here : test x ≡ true = passes zero x (omega arith) (omega arith) in
-      rw here (ap (λ rest. x ∷ rest) (front_passes xs n (omega (arith, le))
-      (λ k d low high. passes (suc k) d (omega arith) (omega (arith, high))) (λ k d low high. fails (suc k) d (omega (arith, low)) (omega (arith, high)))))
-
-  pub stretch_passes : (xs : List X) (m n : ℕ) → m ≤ length xs → AllWithin (λ x. test x ≡ false) xs 0 m → n ≤ length (drop m xs)
-      → AllWithin (λ x. test x ≡ true) (drop m xs) 0 n → AllWithin (λ x. test x ≡ false) (drop m xs) n (length (drop m xs)) → filter test xs ≡ take n (drop m xs)
-  stretch_passes xs zero n le before within passes after = front_passes xs n within passes after
-  stretch_passes [] (suc m) n le before within passes after = absurd (omega (arith, le))
-  stretch_passes (x ∷ xs) (suc m) n le before within passes after =
-      let here : test x ≡ false = before zero x (omega arith) (omega arith) in
-      rw here (stretch_passes xs m n (omega (arith, le)) (λ k d low high. before (suc k) d (omega arith) (omega (arith, high))) within passes after)
-
--- first numbers don't fall
-pub first-rises : (rows : List Row) → Ascend rows → IsNonDecreasingBy (λ (row : Row). row.0.0) rows
-first-rises rows sorted = λ i j d le within. elim (cases_eq i j) [
-  | inl same ↦ let is = ap (λ k. (get_or rows k d).0.0) same in omega (arith, is)
-  | inr other ↦
-      let less : pair_cmp (get_or (keys_of rows) i d.0) (get_or (keys_of rows) j d.0) ≡ Less =
-      Less-from_sorted pair_cmp (keys_of rows) i j d.0 sorted (omega (arith, le, other)) (omega (arith, within, length-map rows (λ (row : Row). row.0))) in
-      let first : get_or (keys_of rows) i d.0 ≡ (get_or rows i d).0 = get_or-map (λ (row : Row). row.0) rows i d d.0 (omega (arith, le, within)) in
-      let second : get_or (keys_of rows) j d.0 ≡ (get_or rows j d).0 = get_or-map (λ (row : Row). row.0) rows j d d.0 within in
-      let before : IsBefore (get_or rows i d).0 (get_or rows j d).0 = (pair_less _ _).0 (sym (λ k. pair_cmp (first k) (second k)) ∙ less) in
-      elim before [ inl lower ↦ omega (arith, lower) | inr both ↦ omega (arith, both.0) ]
-]
-
--- the rows of a first number, by where they begin and how many there are
-pub first-stretch : (rows : List Row) (first m n : ℕ) → m ≤ length rows → n ≤ length (drop m rows)
-    → AllWithin (λ (row : Row). ltb row.0.0 first ≡ true) rows 0 m → AllWithin (λ (row : Row). ltb row.0.0 first ≡ false) rows m (length rows)
-    → AllWithin (λ (row : Row). leb row.0.0 first ≡ true) (drop m rows) 0 n → AllWithin (λ (row : Row). leb row.0.0 first ≡ false) (drop m rows) n (length (drop m rows))
-    → filter (λ row. row.0.0 == first) rows ≡ take n (drop m rows)
-first-stretch rows first m n le within lower upper inside outside = stretch_passes (λ (row : Row). row.0.0 == first) rows m n le
-    (λ k d low high. ne_eqb (get_or rows k d).0.0 first (λ same. omega (arith, same, ltb-true _ _ (lower k d low high)))) within
-    (λ k d low high.
-    let there = ap (λ (row : Row). row.0.0) (get_or-drop m rows k d) in
-    eq-eqb (get_or (drop m rows) k d).0.0 first (omega (arith, there, leb-true _ _ (inside k d low high), ltb-false _ _ (upper (m + k) d (omega arith) (omega (arith, high, within, length-drop m rows))))))
-    (λ k d low high. ne_eqb (get_or (drop m rows) k d).0.0 first (λ same. omega (arith, same, leb-false _ _ (outside k d low high))))
 
 -- ---- the two files in the other order
 pub value-turned : (rows : List Row) (f g : ℕ) → value_of pair_cmp (turned rows) (g, f) ≡ value_of pair_cmp rows (f, g)

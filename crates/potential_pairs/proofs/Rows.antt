@@ -145,11 +145,6 @@ module _ {C V : Type 0} (become : C → Option V) where
 abbrev pub name_in : Found → ℕ × ℕ
 name_in found = (found.0.0, found.1.0)
 
-pub sorted-with_found : (found : List Found) (near : List Row) → Ascend near → Ascend (with_found found near)
-sorted-with_found [] near sorted = sorted
-sorted-with_found (first ∷ more) near sorted =
-    sorted-with_found more (insert_entry pair_cmp near (name_in first) first.2) (sorted-insert_entry pair_order near (name_in first) first.2 sorted)
-
 pub with_found_push : (found : List Found) (last : Found) (near : List Row) → with_found (found ++ last ∷ []) near ≡ insert_entry pair_cmp (with_found found near) (name_in last) last.2
 with_found_push [] last near = refl
 with_found_push (first ∷ more) last near = with_found_push more last (insert_entry pair_cmp near (name_in first) first.2)

@@ -7,10 +7,11 @@ use Rattle.std.proofs.lemmas.Map.Keys.{any_passes_from_place}
 use Rattle.std.proofs.lemmas.Option.{slice_get-get_or}
 use Rattle.media_types.specs.Numbered.{files}
 use Rattle.media_types.specs.declared.numbers.FileNo.{FileNo}
+use Rattle.relation_groups.specs.FirstLaws.{first_from-le}
 use Rattle.relation_groups.specs.Laws.{AreNamed, AreSound}
 use Rattle.relation_groups.specs.Moves.{differ, is_moved, move_to, moves, pairs_differ}
 use Rattle.relation_groups.specs.Reading.{names_unrelated}
-use Rattle.relation_groups.specs.Relations.{Relations, class_of, first_from, is_king}
+use Rattle.relation_groups.specs.Relations.{Relations, class_of, is_king}
 use Rattle.relation_groups.specs.declared.moves.Move.{Move}
 use Rattle.potential_pairs.specs.Naming.{name_of}
 use Rattle.potential_pairs.specs.Planning.{is_moved_file}
@@ -64,13 +65,6 @@ module _ (n : ℕ) (R Q : Relations) (f : ℕ) (unmoved : is_moved n R Q f ≡ f
       (fails_at (λ e. differ (names_unrelated R f e.0) (names_unrelated Q f e.0)) n d within kept_later.1)
 
 -- ---- a class by its name
-first_from_within : (test : ℕ → Bool) (k n : ℕ) → first_from test k n ≤ k + n
-first_from_within test k zero = omega arith
-first_from_within test k (suc n) = by (test k) (first_from_within test (suc k) n) where
-  by : (passes : Bool) → first_from test (suc k) n ≤ suc k + n → cond passes k (first_from test (suc k) n) ≤ k + suc n
-  by true rest = omega arith
-  by false rest = omega (arith, rest)
-
 class_named : (R : Relations) → AreNamed R → (g : ℕ) → class_of R (class_of R g) ≡ class_of R g
 class_named R named g = sym (eqb-true (class_of R g) (class_of R (class_of R g)) (sym (named.agree g (class_of R g)) ∙ named.own g))
 
@@ -130,7 +124,7 @@ unmoved_name n R Q R_sound R_named Q_sound Q_named f g f_there g_there f_stays g
     let class = kept_class n R Q g g_stays in
     let alike : Q.alike f g ≡ R.alike f g =
     Q_named.agree f g ∙ sym (λ i. kept_class n R Q f f_stays i == class i) ∙ sym (R_named.agree f g) in
-    let least : class_of R g < n = omega (arith, first_from_within (R.alike g) 0 g, g_there) in
+    let least : class_of R g < n = omega (arith, first_from-le (R.alike g) 0 g, g_there) in
     let unrelated : Q.unrelated f g ≡ R.unrelated f g =
     sym (unrelated_to_class Q Q_sound Q_named f g) ∙ ap (names_unrelated Q f) (sym class) ∙ sym (kept_pairs n R Q f f_stays (class_of R g) least) ∙ unrelated_to_class R R_sound R_named f g in
     name-by Q Q_sound f g ∙ (λ i. name_by (first i) (second i) (alike i) (unrelated i)) ∙ sym (name-by R R_sound f g)

@@ -4,4 +4,5 @@ pub mod Naming
 pub mod Pages
 pub mod Planning
 pub mod Potential
+pub mod PotentialLaws
 pub mod Tallies

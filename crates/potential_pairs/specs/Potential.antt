@@ -79,6 +79,6 @@ abbrev pub AreBelow : ℕ → List Row → Type 0
 AreBelow n near = All (λ row. (row.0.0 < row.0.1) × (row.0.1 < n)) near
 
 -- what a contract sees of kept pairs: the pairs, and how many changes of them there is room for
-pub record Kept : Type 0 where
+pub record KeptPairs : Type 0 where
   pub rows : PairsView
   pub spare : ℕ

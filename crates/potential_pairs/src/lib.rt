@@ -5,6 +5,7 @@
 
 mod distance_map;
 mod heads;
+mod laws;
 mod names;
 mod near_map;
 mod pair_draft;
@@ -12,11 +13,10 @@ mod pair_plan;
 mod pairs;
 mod tally;
 mod tally_map;
-mod theorems;
 
+pub use laws::potential_laws;
 pub use pair_plan::PairPlan;
 pub use pairs::Pairs;
-pub use theorems::laws;
 
 #[cfg(test)]
 mod tests;

@@ -6,7 +6,7 @@ ghost use Rattle.potential_pairs.specs.Naming.{name_of};
 ghost use Rattle.potential_pairs.specs.Potential.{may_pair};
 
 use media_types::FileNo;
-use relation_groups::{Groups, reading_laws};
+use relation_groups::Groups;
 
 /// Whether the one name comes before the other.
 pub fn is_before(x: (u32, u32), y: (u32, u32)) -> bool
@@ -21,7 +21,6 @@ fn may_pair(groups: &Groups, j: FileNo, k: FileNo) -> bool
     requires k_known { k.0 < size_of groups.now }
     ensures { result ≡ may_pair (relations_in groups.now) j.0 k.0 }
 {
-    reading_laws();
     j.0 < k.0
         && groups.king_of(j).0 == j.0
         && groups.king_of(k).0 == k.0

@@ -24,7 +24,7 @@ use crate::pair_plan::PairPlan;
 use crate::tally::Tally;
 use crate::tally_map::TallyMap;
 use media_types::{FileNo, NearList, NoMemory, PairList, Steps};
-use relation_groups::{GroupPlan, Groups, MoveList, reading_laws};
+use relation_groups::{GroupPlan, Groups, MoveList};
 use spare_tables::KeySet;
 use std::alloc::Global;
 use std::marker::Model;
@@ -44,9 +44,9 @@ pub struct Pairs {
 
 impl Model for Pairs {
     ghost use Rattle.std.specs.Prelude.{min};
-    ghost use Rattle.potential_pairs.specs.Potential.{Kept};
+    ghost use Rattle.potential_pairs.specs.Potential.{KeptPairs};
 
-    ghost Value = { Kept };
+    ghost Value = { KeptPairs };
 
     ghost view = { λ pairs. record {
       rows = record {
@@ -289,7 +289,6 @@ impl Pairs {
             + 64 * (1 + (length moved.now.moves + length (touched moved.now.moves self.old.rows.near))) }
     {
         self.in_order();
-        reading_laws();
         let touched = self.near_of_moved(moved.moves(), steps)?;
         let after = moved.groups_after(groups);
         let mut plan = PairDraft::new(self.alloc);

@@ -8,7 +8,7 @@ ghost use Rattle.relation_groups.specs.Relations.{at_first, relations};
 
 use super::*;
 use media_types::{Code, FileNo, MAX_DISTANCE, MAX_FILES, NearList, NoMemory, PairList, Steps};
-use relation_groups::{Groups, laws};
+use relation_groups::Groups;
 use std::alloc::Global;
 use std::marker::Brand;
 use std::process::Abort;
@@ -277,7 +277,6 @@ fn decide_in_both<L: Ledger>(
     ensures of { AreOf (relations_in groups.new) pairs.new.rows }
     ensures below { AreBelow (size_of groups.new) pairs.new.rows.near }
 {
-    laws();
     assert!(rt; row.1 < groups.len() && row.2 < groups.len() && row.1 != row.2);
     let moved = groups.plan_decide(row.0, FileNo(row.1), FileNo(row.2), steps)?;
     let plan = pairs.plan_moved(&moved, groups, steps)?;

@@ -1,16 +1,10 @@
-pub mod Closed
 pub mod Counts
-pub mod Firsts
-pub mod Folds
 pub mod Leaving
 pub mod Lists
 pub mod Moving
-pub mod Named
 pub mod Naming
 pub mod Nexts
 pub mod Pairs
 pub mod Readings
-pub mod Sound
-pub mod Splits
 pub mod Steps
 pub mod Writes

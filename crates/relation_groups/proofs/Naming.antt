@@ -13,10 +13,10 @@ use Rattle.relation_groups.specs.Numbers.{has, is_of, pair_at, are_below, least_
 use Rattle.relation_groups.specs.Reading.{relations_in, at, is_below, IsOfFirst, AreInOrder}
 use Rattle.relation_groups.specs.Relations.{Relations, at_first, by_code, class_of, first_from}
 use Rattle.media_types.specs.declared.decision.Code.{Code}
-use Rattle.relation_groups.proofs.Closed.{outside-split, patched-is}
-use Rattle.relation_groups.proofs.Firsts.{first_from-le, first_from-none, first_from-inside, first_from-ext, first_from-more}
+use Rattle.relation_groups.specs.ClosedLaws.{outside-split, patched-is}
+use Rattle.relation_groups.specs.FirstLaws.{first_from-le, first_from-none, first_from-inside, first_from-ext, first_from-more}
 use Rattle.relation_groups.proofs.Readings.{at-within, at-past, class-le}
-use Rattle.relation_groups.proofs.Splits.{agree-trans, by_code-split, by_code-apart}
+use Rattle.relation_groups.specs.SplitLaws.{agree-trans, by_code-split, by_code-apart}
 use Rattle.relation_groups.proofs.Writes.{get_or-set}
 
 -- relations of the first files that agree on these

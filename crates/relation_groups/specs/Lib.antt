@@ -1,8 +1,14 @@
+pub mod ClosedLaws
 pub mod Clusters
+pub mod FirstLaws
+pub mod FoldLaws
 pub mod Kept
 pub mod Laws
 pub mod Moves
+pub mod NamedLaws
 pub mod Numbers
 pub mod Reading
 pub mod Relations
 pub mod Rows
+pub mod SoundLaws
+pub mod SplitLaws

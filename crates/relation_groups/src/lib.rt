@@ -5,16 +5,16 @@
 mod draft;
 mod group_plan;
 mod groups;
+mod laws;
 mod moves;
 mod numbers;
 mod rows;
-mod theorems;
 
 pub use group_plan::GroupPlan;
 pub use groups::Groups;
+pub use laws::relation_laws;
 pub use moves::{Move, MoveList};
 pub use rows::worked_rows;
-pub use theorems::{laws, reading_laws};
 
 #[cfg(test)]
 mod tests;

@@ -77,6 +77,3 @@ module _ {V : Type 0} where
       let low : first ≤ row.0.0 = All-head (λ (r : (ℕ × ℕ) × V). first ≤ r.0.0) row rows ascend.least in
       let behind = none_behind first row.0 rows (omega (arith, other)) ascend.sorted.0 in
       (rw (ne_eqb row.0.0 first other) behind, behind)
-
-  pub of_first-this : (first : ℕ) (row : (ℕ × ℕ) × V) (rows : List ((ℕ × ℕ) × V)) → row.0.0 ≡ first → of_first first (row ∷ rows) ≡ row ∷ of_first first rows
-  of_first-this first row rows same = rw (eq-eqb row.0.0 first same) refl

@@ -5,8 +5,8 @@ use Rattle.std.proofs.lemmas.List.{get_or-take, get_or_default, length-take-le, 
 use Rattle.media_types.specs.declared.numbers.FileNo.{FileNo}
 use Rattle.spare_tables.specs.Order.{file_cmp}
 use Rattle.tree_upkeep.specs.Queue.{Ascend}
-use Rattle.tree_upkeep.proofs.Ends.{at_end}
-use Rattle.tree_upkeep.proofs.Places.{put_in}
+use Rattle.tree_upkeep.specs.EndLaws.{at_end}
+use Rattle.tree_upkeep.specs.PlaceLaws.{put_in}
 
 ascend-take : (files : List FileNo) (n : ℕ) → n < length files → Ascend files → Ascend (take n files)
 ascend-take files n within ascend = λ i j d before inside.

@@ -4,13 +4,13 @@
 //! Room is made first, or a change is planned first, and then the change itself can't be refused.
 #![tactic(auto)]
 
+mod laws;
 mod marks;
 mod queue_plan;
-mod theorems;
 mod upkeep;
 
+pub use laws::queue_laws;
 pub use queue_plan::QueuePlan;
-pub use theorems::laws;
 pub use upkeep::Upkeep;
 
 #[cfg(test)]

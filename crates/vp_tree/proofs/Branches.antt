@@ -9,7 +9,7 @@ use Rattle.vp_tree.specs.declared.node.NodeView.{NodeView}
 use Rattle.vp_tree.specs.Nodes.{node_at, at_part, total_in, total, one_at, times}
 use Rattle.vp_tree.specs.Searching.{opens_inner, opens_outer, open_inner, open_outer, reads_in}
 use Rattle.vp_tree.specs.Shape.{inward, outward, part, ComeLater, IsTree}
-use Rattle.vp_tree.proofs.Metric.{distance_of-sym, triangle}
+use Rattle.media_types.specs.DistanceLaws.{distance_of-sym, triangle}
 
 pub at_part-same : (o : Option HashNo) (F G : ℕ → ℕ) → ((c : HashNo) → o ≡ Some c → F c.0 ≡ G c.0) → at_part o F ≡ at_part o G
 at_part-same None F G h = refl

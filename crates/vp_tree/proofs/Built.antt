@@ -128,10 +128,6 @@ stack-few n f old rest new part points e is put few =
     All-pop (λ ps. length ps ≤ n) (map f old) (map f rest) (Some (f part)) (taken f old rest part e) few in
     rw (put ∙ ap (λ ps. map f rest ++ left_parts ps) is) (left-few n (map f rest) (f part) before.0 before.1)
 
-pub part-few : {V : Type 0} (n : ℕ) (f : V → List Point) (old rest : List V) (part : V) → old ≡ rest ++ part ∷ []
-    → All (λ ps. length ps ≤ n) (map f old) → length (f part) ≤ n
-part-few n f old rest part e few = (All-pop (λ ps. length ps ≤ n) (map f old) (map f rest) (Some (f part)) (taken f old rest part e) few).1
-
 pub stack-left : {V : Type 0} (f : V → List Point) (old rest new : List V) (part : V) (points : List Point) (nodes more all : List (HashNo × NodeView))
     → old ≡ rest ++ part ∷ [] → points ≡ f part → map f new ≡ map f rest ++ left_parts points → more ≡ nodes ++ first_built points
     → nodes ++ left_built (map f old) ≡ all → more ++ left_built (map f new) ≡ all

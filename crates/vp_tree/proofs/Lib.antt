@@ -5,7 +5,6 @@ pub mod Finding
 pub mod Growing
 pub mod Grown
 pub mod Marks
-pub mod Metric
 pub mod Placed
 pub mod Radii
 pub mod Rebuilt

@@ -8,7 +8,6 @@ use Rattle.vp_tree.specs.declared.building.Point.{Point}
 use Rattle.vp_tree.specs.declared.node.NodeView.{NodeView}
 use Rattle.vp_tree.specs.Building.{point_at, points, IsRebuilt, IsBuiltWhole}
 use Rattle.vp_tree.specs.Nodes.{leaf, node_at, words_in}
-use Rattle.vp_tree.specs.Marking.{ArePlaced, IsGrown, MarkedTree}
 use Rattle.vp_tree.specs.Placing.{IsPlaced}
 use Rattle.vp_tree.specs.Shape.{IsTree}
 use Rattle.vp_tree.proofs.Collecting.{points-root}
@@ -59,9 +58,3 @@ rebuilt-whole ns ms top T R lt root =
     let all : points ns top ≡ map (point_at ms) (range_with_len 0 (length ms)) =
     ap (points ns) root ∙ points-root ns T ∙ rebuilt-points ns ms top T R lt in
     record { built = rw all at R.built }
-
--- one more word is placed after others
-pub placed-one_more : (old next new : MarkedTree) (words : List Hash64) (w : Hash64)
-    → ArePlaced old words next → IsGrown next new w → ArePlaced old (words ++ w ∷ []) new
-placed-one_more old next new [] w all last = (new, subst (λ tree. IsGrown tree new w) all last, refl)
-placed-one_more old next new (x ∷ words) w all last = (all.0, all.1, placed-one_more all.0 next new words w all.2 last)

@@ -2,6 +2,7 @@ pub mod Building
 pub mod Marking
 pub mod Nodes
 pub mod Placing
+pub mod PlacingLaws
 pub mod Searching
 pub mod Shape
 pub mod Spared

@@ -1,18 +1,10 @@
-ghost use Rattle.std.specs.Prelude.{◌≡◌, ◌↔◌, ◌+◌, ◌≤◌, List, [], ◌∷◌, ◌++◌, length, map};
+ghost use Rattle.std.specs.Prelude.{◌≡◌, List, [], ◌∷◌, ◌++◌, length, map};
 ghost use Rattle.std.specs.List.{range_with_len};
 ghost use Rattle.media_types.specs.declared.hash.Hash64.{Hash64};
-ghost use Rattle.media_types.specs.Distance.{distance_of};
 ghost use Rattle.vp_tree.specs.declared.node.NodeView.{NodeView};
 ghost use Rattle.vp_tree.specs.Building.{point_at, points};
 ghost use Rattle.vp_tree.specs.Marking.{ArePlaced, IsGrown, MarkedTree};
 ghost use Rattle.vp_tree.specs.Shape.{IsTree};
-
-/// The distance of two words is a metric. The call does nothing.
-pub fn distance_laws()
-    ensures zero { (x y : Hash64) → (distance_of x y ≡ 0) ↔ (x ≡ y) }
-    ensures symmetric { (x y : Hash64) → distance_of x y ≡ distance_of y x }
-    ensures triangle { (x y z : Hash64) → distance_of x z ≤ distance_of x y + distance_of y z }
-{}
 
 /// The branch at the root has all points, so that building it builds the whole tree. The call does nothing.
 pub fn root_law()

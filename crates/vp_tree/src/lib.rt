@@ -16,7 +16,7 @@ mod table;
 mod tree;
 
 pub use hits::HitList;
-pub use laws::{distance_laws, placing_laws, root_law};
+pub use laws::{placing_laws, root_law};
 pub use node::NodeView;
 pub use plan::{BuildPlan, InsertPlan};
 pub use tree::Tree;

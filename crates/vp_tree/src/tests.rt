@@ -371,7 +371,6 @@ fn assert_cases<L: Ledger>(
 #[test]
 fn words_are_placed_and_built(rt: HostRuntime) -> Result<(), Fail> {
     assert_cases::<Brand>(&rt, rt.alloc(), Blank::new(1))?;
-    distance_laws();
     root_law();
     placing_laws();
     Ok(())

@@ -159,13 +159,21 @@ fn assert_nexts<L: Ledger>(rt: &impl Abort, files: &Files, steps: &mut Steps<L>)
     }
 }
 
-fn assert_distance(rt: &impl Abort, files: &Files, f: u32, g: u32, expected: Option<u32>) {
+fn assert_distance<L: Ledger>(
+    rt: &impl Abort,
+    files: &Files,
+    f: u32,
+    g: u32,
+    expected: Option<u32>,
+    steps: &mut Steps<L>,
+) {
     assert!(rt; f < files.len() && g < files.len());
-    assert_eq!(rt; files.file_distance(FileNo(f), FileNo(g)), expected);
+    let distance = files.file_distance(FileNo(f), FileNo(g), steps);
+    assert_eq!(rt; distance, expected);
 }
 
 // Bits that differ, counted by hand.
-fn assert_distances(rt: &impl Abort, files: &Files) {
+fn assert_distances<L: Ledger>(rt: &impl Abort, files: &Files, steps: &mut Steps<L>) {
     let cases = [
         (0, 0, None),
         (0, 3, None),
@@ -179,8 +187,8 @@ fn assert_distances(rt: &impl Abort, files: &Files) {
         (4, 5, Some(60)),
     ];
     for (f, g, expected) in cases {
-        assert_distance(rt, files, f, g, expected);
-        assert_distance(rt, files, g, f, expected);
+        assert_distance(rt, files, f, g, expected, steps);
+        assert_distance(rt, files, g, f, expected, steps);
     }
 }
 
@@ -199,7 +207,7 @@ fn find_all<L: Ledger>(
     assert_all_found(rt, files, &mut steps);
     assert_numbers(rt, files);
     assert_nexts(rt, files, &mut steps);
-    assert_distances(rt, files);
+    assert_distances(rt, files, &mut steps);
     Ok(())
 }
 

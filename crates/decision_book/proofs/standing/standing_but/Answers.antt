@@ -3,7 +3,7 @@ use Rattle.std.proofs.lemmas.List.{take_all}
 use Rattle.decision_book.specs.declared.decision_row.DecisionRow.{DecisionRow}
 use Rattle.decision_book.specs.Recorded.{undone_at}
 use Rattle.decision_book.specs.Standing.{standing}
-use Rattle.decision_book.proofs.Decisions.{undoing_keeps_length}
+use Rattle.decision_book.specs.DecisionLaws.{undoing_keeps_length}
 use Rattle.decision_book.proofs.Undoing.{is_undone, left_out, not_undone, pushed, row_there}
 use Rattle.decision_book.proofs.standing.standing_but.Goals as goal
 use Rattle.decision_book.proofs.standing.standing_but.Goals.{then-not-row+then-at-from+in_ok-push, else-not-row, else-not-row-via-then-not-row+else-at-from, else-not-row-via-else-not-row}

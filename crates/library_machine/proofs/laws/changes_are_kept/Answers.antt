@@ -2,12 +2,10 @@ use Rattle.library_machine.proofs.Sound.{sound, wants_room, wants_keeping}
 use Rattle.library_machine.proofs.laws.changes_are_kept.Goals as goal
 
 pub returns-clause-told : goal.returns-clause-told
-returns-clause-told c = λ s caller command.
-    (sound c.changes_are_good.ensures.fits c.changes_are_good.ensures.other s caller command).told
+returns-clause-told c = λ s caller command. (sound s caller command).told
 
 pub returns-clause-lead : goal.returns-clause-lead
-returns-clause-lead c = λ s caller command.
-    (sound c.changes_are_good.ensures.fits c.changes_are_good.ensures.other s caller command).leads
+returns-clause-lead c = λ s caller command. (sound s caller command).leads
 
 pub returns-clause-room : goal.returns-clause-room
 returns-clause-room c = wants_room

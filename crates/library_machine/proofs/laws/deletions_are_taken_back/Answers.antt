@@ -2,4 +2,4 @@ use Rattle.library_machine.proofs.TakingBack as back
 use Rattle.library_machine.proofs.laws.deletions_are_taken_back.Goals as goal
 
 pub returns : goal.returns
-returns c = back.deletions_are_taken_back c.live_laws.ensures.each c.live_laws.ensures.same_length c.live_laws.ensures.back
+returns c = back.deletions_are_taken_back

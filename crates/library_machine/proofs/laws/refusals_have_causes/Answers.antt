@@ -2,8 +2,7 @@ use Rattle.library_machine.proofs.Causes as causes
 use Rattle.library_machine.proofs.laws.refusals_have_causes.Goals as goal
 
 pub returns-clause-all : goal.returns-clause-all
-returns-clause-all c = causes.refusals_have_causes c.laws.ensures.not_found
+returns-clause-all c = causes.refusals_have_causes
 
 pub returns-clause-jobs : goal.returns-clause-jobs
-returns-clause-jobs c =
-    causes.jobs_lack_room_alone c.laws.ensures.not_found c.search_laws.ensures.changes c.search_laws.ensures.none c.search_laws.ensures.queue_known
+returns-clause-jobs c = causes.jobs_lack_room_alone

@@ -1,5 +1,5 @@
 use Rattle.std.proofs.Common.{arith}
-use Rattle.library_tables.proofs.Marking.{one_more_mark}
+use Rattle.library_tables.proofs.TreeMarks.{one_more_mark}
 use Rattle.library_tables.proofs.words.place_word.Goals as goal
 
 pub returns-in-Some-clause-marked : goal.returns-in-Some-clause-marked

@@ -4,6 +4,7 @@ use Rattle.media_types.specs.declared.hash.Hash64.{Hash64}
 use Rattle.vp_tree.specs.declared.plan.InsertPlan.{InsertPlan}
 use Rattle.vp_tree.specs.Marking.{ArePlaced}
 use Rattle.vp_tree.specs.Nodes.{words_in}
+use Rattle.vp_tree.specs.PlacingLaws.{placed-one_more}
 use Rattle.library_tables.specs.Imports.{words_planned}
 use Rattle.library_tables.specs.Tables.{with_marks}
 use Rattle.library_tables.proofs.Placing.{can_take, ended}
@@ -14,7 +15,7 @@ loop-plan-init g c =
     let all = c.into_iter-plan-iterator.ensures.into_iter_gives.0 in
     record {
       parts = all;
-      placed = c.placing_laws.ensures.none (with_marks c.args.tree.now c.args.upkeep.now);
+      placed = refl;
       words = sym (append-nil (words_in c.args.tree.now.rows));
       steps = λ none. refl;
       room = rw all c.requires.room;
@@ -39,7 +40,7 @@ loop-plan-preserved g c =
       parts =
           append_assoc l.yielded (c.in-Some.plan ∷ []) c.next.new.self.rest.items
           ∙ ap (λ (rest : List InsertPlan). l.yielded ++ rest) (sym c.in-Some.ensures.steps.0) ∙ l.invariant.parts;
-      placed = rw snoc (c.placing_laws.ensures.one_more _ _ _ _ _ l.invariant.placed c.place_word.ensures.grown);
+      placed = rw snoc (placed-one_more _ _ _ _ _ l.invariant.placed c.place_word.ensures.grown);
       words =
           c.place_word.ensures.words ∙ ap (λ (words : List Hash64). words ++ c.in-Some.plan.word ∷ []) l.invariant.words
           ∙ append_assoc (words_in c.args.tree.now.rows) (words_planned l.yielded) (c.in-Some.plan.word ∷ [])

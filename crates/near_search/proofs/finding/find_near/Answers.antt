@@ -1,19 +1,25 @@
-use Rattle.std.proofs.Common.{◌≡◌, ◌∙◌, [], length, sum_by, subst, sym, ap, arith}
-use Rattle.std.specs.List.{flat_map}
+use Rattle.std.proofs.Common.{◌≡◌, ◌<◌, ◌∙◌, [], length, sum_by, subst, sym, ap, arith}
+use Rattle.std.specs.List.{All, flat_map}
 use Rattle.std.proofs.lemmas.List.{take_all}
 use Rattle.std.proofs.lemmas.List.Sums.{sum_by_more, sum_by_more_le}
 use Rattle.media_types.specs.declared.numbers.FileNo.{FileNo}
 use Rattle.file_records.specs.Near.{near_pairs}
+use Rattle.file_records.specs.SearchLaws.{known}
 use Rattle.file_records.specs.Searching.{rising, searched}
 use Rattle.potential_pairs.specs.Planning.{AreFound, with_found}
 use Rattle.near_search.specs.Noting.{IsRise, noted_of}
 use Rattle.near_search.specs.Work.{met_of, work}
-use Rattle.near_search.proofs.Joined.{RowLaws, found_right}
+use Rattle.near_search.proofs.Joined.{found_right}
 use Rattle.near_search.proofs.Meeting.{few_found, flat_more, work_is}
 use Rattle.near_search.proofs.finding.find_near.Goals as goal
 
 abbrev no_file : FileNo
 no_file = record { 0 = 0 }
+
+pub note_file-requires-clause-known : goal.note_file-requires-clause-known
+note_file-requires-clause-known g c =
+    let rows = c.args.files.now.rows in
+    subst (All (λ (f : FileNo). f.0 < length rows)) (sym c.requires.risen.1) (known c.args.distance c.requires.risen.0 rows) c.loop-file.file-index no_file c.loop-file-test.true
 
 pub loop-file-preserved : goal.loop-file-preserved
 loop-file-preserved g c =
@@ -55,16 +61,7 @@ returns-clause-found g c =
     let risen = c.args.risen.now in
     let is : IsRise d rows risen = (c.requires.risen.0, c.requires.risen.1 ∙ ap (λ n. rising n c.requires.risen.0 rows) (sym c.bits.ensures.value)) in
     let all : c.loop-file.found ≡ flat_map (noted_of tree rows d risen) risen = c.loop-file.invariant.noted ∙ ap (flat_map (noted_of tree rows d risen)) (take_all c.loop-file.file-index risen (omega arith)) in
-    let laws : RowLaws = record {
-      put_this = c.edit_laws.ensures.put_this;
-      put_others = c.edit_laws.ensures.put_others;
-      put_sorted = c.edit_laws.ensures.put_sorted;
-      same_rows = c.row_laws.ensures.same_rows;
-      below_sorted = c.row_laws.ensures.below_sorted;
-      below_value = c.row_laws.ensures.below_value;
-    } in
-    let right = found_right laws c.search_laws.ensures.each c.search_laws.ensures.rises c.search_laws.ensures.same_length c.near_laws.ensures.symmetric c.hash_laws.ensures.numbered
-    tree rows d risen c.requires.words is (omega (arith, c.bits.ensures.fits, c.bits.ensures.value)) in
+    let right = found_right tree rows d risen c.requires.words is (omega (arith, c.bits.ensures.fits, c.bits.ensures.value)) in
     subst (AreFound (length rows) (near_pairs rows)) (sym all) right.0
 
 pub returns-clause-near : goal.returns-clause-near
@@ -75,16 +72,7 @@ returns-clause-near g c =
     let risen = c.args.risen.now in
     let is : IsRise d rows risen = (c.requires.risen.0, c.requires.risen.1 ∙ ap (λ n. rising n c.requires.risen.0 rows) (sym c.bits.ensures.value)) in
     let all : c.loop-file.found ≡ flat_map (noted_of tree rows d risen) risen = c.loop-file.invariant.noted ∙ ap (flat_map (noted_of tree rows d risen)) (take_all c.loop-file.file-index risen (omega arith)) in
-    let laws : RowLaws = record {
-      put_this = c.edit_laws.ensures.put_this;
-      put_others = c.edit_laws.ensures.put_others;
-      put_sorted = c.edit_laws.ensures.put_sorted;
-      same_rows = c.row_laws.ensures.same_rows;
-      below_sorted = c.row_laws.ensures.below_sorted;
-      below_value = c.row_laws.ensures.below_value;
-    } in
-    let right = found_right laws c.search_laws.ensures.each c.search_laws.ensures.rises c.search_laws.ensures.same_length c.near_laws.ensures.symmetric c.hash_laws.ensures.numbered
-    tree rows d risen c.requires.words is (omega (arith, c.bits.ensures.fits, c.bits.ensures.value)) in
+    let right = found_right tree rows d risen c.requires.words is (omega (arith, c.bits.ensures.fits, c.bits.ensures.value)) in
     ap (λ found. with_found found (near_pairs rows)) all ∙ right.1 ∙ ap (λ n. near_pairs (searched n risen rows)) c.bits.ensures.value
 
 pub returns-clause-few : goal.returns-clause-few

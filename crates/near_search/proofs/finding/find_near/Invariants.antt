@@ -10,5 +10,5 @@ invariant-loop-file g l =
     let tree = l.tree.rows in
     record {
       noted : l.found ≡ flat_map (noted_of tree rows l.search.distance l.risen) (take l.file-index l.risen);
-      reads : l.steps ≤ l.initial.steps + (l.file-index + 4 * sum_by (met_of tree rows l.search.distance) (take l.file-index l.risen));
+      reads : l.steps ≤ l.initial.steps + (l.file-index + 5 * sum_by (met_of tree rows l.search.distance) (take l.file-index l.risen));
     }

@@ -1,7 +1,8 @@
 use Rattle.std.proofs.Common.{ap, sym}
 use Rattle.spare_tables.specs.Table.{Table}
 use Rattle.file_records.specs.declared.file_row.FileRow.{FileRow}
-use Rattle.file_records.proofs.Lookups.{place_seen, unknown_is_not_found, not_found_is_unknown, found_has_sha}
+use Rattle.file_records.specs.LookupLaws.{unknown_is_not_found, not_found_is_unknown}
+use Rattle.file_records.proofs.Lookups.{place_seen, found_has_sha}
 use Rattle.file_records.proofs.files.Files.find.Goals as goal
 
 pub returns-in_err-at-clause-place : goal.returns-in_err-at-clause-place

@@ -1,5 +1,5 @@
 use Rattle.std.proofs.Common.{length, ap, arith}
-use Rattle.file_records.proofs.Words.{few_words}
+use Rattle.file_records.specs.WordLaws.{few_words}
 use Rattle.file_records.proofs.files.Files.find_hash.Goals as goal
 
 pub overflow_cast-result : goal.overflow_cast-result

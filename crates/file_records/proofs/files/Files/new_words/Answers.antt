@@ -1,7 +1,7 @@
 use Rattle.std.proofs.Common.{◌≡◌, get_or, not, inl, inr, ap, sym, ◌∙◌}
 use Rattle.media_types.specs.declared.hash.Hash64.{Hash64}
 use Rattle.file_records.specs.Words.{is_among, words_of}
-use Rattle.file_records.proofs.Numbers.{is_found}
+use Rattle.file_records.specs.NumberLaws.{is_found}
 use Rattle.file_records.proofs.Words.{found_before, found_now}
 use Rattle.file_records.proofs.files.Files.new_words.Goals as goal
 use Rattle.file_records.proofs.files.Files.new_words.Goals.{then-is_none+then-not-contains+in_ok-push, else-is_none, else-is_none-via-then-is_none+else-not-contains, else-is_none-via-else-is_none}

@@ -1,5 +1,5 @@
 use Rattle.std.proofs.Common.{◌≡◌, ◌<◌, ◌++◌, [], ◌∷◌, length, ap, sym, ◌∙◌, arith}
-use Rattle.file_records.proofs.Ascending.{file_of}
+use Rattle.file_records.specs.AscendingLaws.{file_of}
 use Rattle.file_records.proofs.Queues.{queue_leaves_out, queue_takes, whole_queue}
 use Rattle.file_records.proofs.files.Files.queue.Goals as goal
 use Rattle.file_records.proofs.files.Files.queue.Goals.{then-is_queued+in_ok-push, else-is_queued}

@@ -5,7 +5,7 @@ use Rattle.std.proofs.lemmas.List.Sorted.{All-permutation, IsNonDecreasingBy-fro
 use Rattle.media_types.specs.declared.numbers.FileNo.{FileNo}
 use Rattle.file_records.specs.Searching.{is_short_of}
 use Rattle.file_records.proofs.Rising.{again_is_not_found, far_is_not_found, is_last, is_not_last, next_is_found, none_named, whole_rising}
-use Rattle.file_records.proofs.Searches.{passes_as_read}
+use Rattle.file_records.proofs.Listed.{passes_as_read}
 use Rattle.file_records.proofs.files.Files.rising.Goals as goal
 use Rattle.file_records.proofs.files.Files.rising.Goals.{then-ne+then-is_short_of+in_ok-push, else-ne, else-ne-via-then-ne+else-is_short_of, else-ne-via-else-ne}
 

@@ -1,5 +1,6 @@
 use Rattle.std.proofs.Common.{◌≡◌, Some, Err, sym, subst, ap, ◌∙◌}
 use Rattle.media_base.specs.Keeping.{HasGivenAll}
+use Rattle.library_machine.specs.GoodLaws.{changes_keep_fit}
 use Rattle.library_machine.specs.Opening.{after_change, if_made}
 use Rattle.library_machine.specs.Records.{Fits, Records}
 use Rattle.library_tables.specs.Tables.{records_of}
@@ -52,7 +53,7 @@ invariant_of-self-in-Ok g c =
     subst (λ (s : Records). after_change s change ≡ Some (records_of c.commit.new.self)) c.plan.ensures.records
     (ap (if_made (records_of c.plan.new.self) change) prepared.0 ∙ ap Some (sym after)) in
     record {
-      fits = subst Fits (sym after) (c.records_stay_fit.ensures.after_a_change _ change prepared.0 (subst Fits (sym c.plan.ensures.records) c.self.invariant.fits));
+      fits = subst Fits (sym after) (changes_keep_fit _ change prepared.0 (subst Fits (sym c.plan.ensures.records) c.self.invariant.fits));
       words = c.commit.ensures.words;
       is_ready = c.in-Ok.ensures.still_ready;
       all_given = subst HasGivenAll (sym c.in-Ok.ensures.same_place) c.self.invariant.all_given;

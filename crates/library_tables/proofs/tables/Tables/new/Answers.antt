@@ -2,12 +2,13 @@ use Rattle.std.proofs.Common.{◌<◌, length, refl, ap, sym, ◌∙◌}
 use Rattle.std.proofs.lemmas.List.Elements.{All-nil}
 use Rattle.file_records.specs.Near.{near_pairs}
 use Rattle.file_records.specs.Living.{deleted}
+use Rattle.library_machine.specs.GoodLaws.{first_fit}
 use Rattle.library_tables.proofs.Committing.{no_near, no_words, no_queue}
 use Rattle.library_tables.proofs.tables.Tables.new.Goals as goal
 
 pub invariant_of-result : goal.invariant_of-result
 invariant_of-result c = record {
-  fits = rw (c.new.ensures.rows, c.new-2.ensures.rows, c.first.ensures, c.new-7.ensures, c.new-8.ensures, c.new-9.ensures.rows) c.records_stay_fit.ensures.at_first;
+  fits = rw (c.new.ensures.rows, c.new-2.ensures.rows, c.first.ensures, c.new-7.ensures, c.new-8.ensures, c.new-9.ensures.rows) first_fit;
   decided = rw (c.new.ensures.rows, c.new-2.ensures.files) refl;
   grouped = rw (c.new.ensures.rows, c.new-3.ensures.size) refl;
   related = rw (c.new-2.ensures.rows, c.new-3.ensures.relations) refl;

@@ -15,7 +15,7 @@ returns-clause-prepared g c =
     let new : TablesView = record { files = c.plan_import.new.self; book = c.reserve.new.self; groups = c.reserve_file.new.self; tree = c.plan_words.new.tree; pairs = c.self.inside.pairs; work = c.reserve-2.new.self; distance = c.self.inside.distance; tags = c.self.inside.tags; services = c.self.inside.services; mappings = c.self.inside.mappings } in
     let rows = c.plan_import.ensures.rows in
     let asks = asks_of_tree c.self.inside.tree c.self.inside.files.rows c.plan_import.new.self.rows c.plan_import.new.self.spare _ _ c.self.invariant.words rows c.in_ok-file.ensures.planned c.words.ensures in
-    import_prepared c.records_stay_fit.ensures.after_a_change new c.args.file.now (record { file = c.in_ok-file.file; words = c.in_ok-words.words; queued = not c.is_empty-queued.result }) c.len-count.result
+    import_prepared new c.args.file.now (record { file = c.in_ok-file.file; words = c.in_ok-words.words; queued = not c.is_empty-queued.result }) c.len-count.result
     (rw (rows, c.in_ok-reserve.ensures.rows) c.self.invariant.fits) (rw rows (sym c.in_default.ensures.place)) (rw rows (lt-ltb _ _ (omega (arith, c.len-count.ensures.rows)))) (c.len-count.ensures.rows ∙ ap length (sym rows))
     c.in_ok-reserve.ensures.ok c.in_ok-reserve_file.ensures.ok c.in_ok-reserve-2.ensures.ok
     (omega (arith, c.in_ok-reserve-2.ensures.mark_room, ap length c.words.ensures, asks.few))

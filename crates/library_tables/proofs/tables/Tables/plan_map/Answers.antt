@@ -57,7 +57,7 @@ returns-clause-prepared c =
     let fresh : is_mapped_so r m ≡ false = search rules in
     let told : answers.Mapped (record { tag = numbered r m.tag; changed = not (is_mapped_so r m) }) ≡ answers.Mapped (record { tag = c.numbered.result; changed = not c.is_same-is_so.result }) = search rules in
     let same = c.ready_mapping.ensures.records in
-    mapping_prepared c.records_stay_fit.ensures.after_a_change c.ready_mapping.new.self m c.in_ok-plan.plan _ c.ready_mapping.ensures.fits
+    mapping_prepared c.ready_mapping.new.self m c.in_ok-plan.plan _ c.ready_mapping.ensures.fits
     (ap (λ (r : Records). does r (changes.Mapping m)) same ∙ set_met r m there c.requires.state room rows ∙ ap Ok fresh)
     (ap (λ (r : Records). answer_to r (changes.Mapping m)) same ∙ set_answer r m c.requires.state ∙ told)
     c.in_ok-plan.ensures.ready

@@ -13,4 +13,4 @@ returns-clause-prepared c =
     let fits : Fits (records_of t) = search rules in
     let there : list_all (has_service (records_of t)) (services_named c.args.service c.args.orders.now) ≡ true = search rules in
     let other : has_orders (records_of t) c.args.service c.args.orders.now ≡ false = search rules in
-    orders_prepared c.records_stay_fit.ensures.after_a_change t c.args.service c.args.orders.now fits there (service_known (records_of t) c.args.service c.args.orders.now there) other
+    orders_prepared t c.args.service c.args.orders.now fits there (service_known (records_of t) c.args.service c.args.orders.now there) other

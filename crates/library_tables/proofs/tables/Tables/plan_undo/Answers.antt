@@ -2,6 +2,8 @@ use Rattle.std.proofs.Common.{◌≡◌, length, arith, ◌∙◌}
 use Rattle.std.proofs.lemmas.List.FromFn.{length-map-range_with_len}
 use Rattle.decision_book.specs.Recorded.{undone_at}
 use Rattle.decision_book.specs.Standing.{standing}
+use Rattle.decision_book.specs.DecisionLaws.{few_stand, undoing_keeps_length}
+use Rattle.relation_groups.specs.SoundLaws.{relations-sound}
 use Rattle.relation_groups.specs.Reading.{relations_after}
 use Rattle.relation_groups.specs.Relations.{relations}
 use Rattle.library_tables.specs.Tables.{TablesView}
@@ -21,29 +23,29 @@ plan_refold-requires-clause-few_files g c =
 
 pub plan_refold-requires-clause-few_decisions : goal.plan_refold-requires-clause-few_decisions
 plan_refold-requires-clause-few_decisions g c =
-    let few = c.laws.ensures.few_stand (undone_at c.args.number.0 c.self.inside.book.rows) in
-    let same = c.laws.ensures.undoing_keeps_length c.args.number.0 c.self.inside.book.rows in
+    let few = few_stand (undone_at c.args.number.0 c.self.inside.book.rows) in
+    let same = undoing_keeps_length c.args.number.0 c.self.inside.book.rows in
     rw c.in_ok-standing.ensures.decisions (omega (arith, few, same, c.self.invariant.fits.few_decisions))
 
 pub plan_refold-requires-clause-two : goal.plan_refold-requires-clause-two
 plan_refold-requires-clause-two g c =
     rw c.in_ok-standing.ensures.decisions
-    (left_of_two c.laws.ensures.all_recorded c.laws.ensures.undoing_keeps_decisions c.args.number.0 c.self.inside.book.rows c.self.invariant.fits.of_two)
+    (left_of_two c.args.number.0 c.self.inside.book.rows c.self.invariant.fits.of_two)
 
 pub plan_refold-requires-clause-within : goal.plan_refold-requires-clause-within
 plan_refold-requires-clause-within g c =
     let m = length c.self.inside.files.rows in
     rw (c.in_ok-files.ensures, c.len-2.ensures.rows, c.in_ok-standing.ensures.decisions)
-    (all_within m _ (left_among c.laws.ensures.all_recorded c.laws.ensures.undoing_keeps_decisions c.args.number.0 m c.self.inside.book.rows c.self.invariant.fits.among))
+    (all_within m _ (left_among c.args.number.0 m c.self.inside.book.rows c.self.invariant.fits.among))
 
 pub plan_refold-requires-clause-closed : goal.plan_refold-requires-clause-closed
 plan_refold-requires-clause-closed g c =
     let m = length c.self.inside.files.rows in
     rw (c.in_ok-files.ensures, c.len-2.ensures.rows, c.self.invariant.related)
-    (all_split c.laws-2.ensures.split m _ (standing_among c.laws.ensures.all_recorded m c.self.inside.book.rows c.self.invariant.fits.among))
+    (all_split m _ (standing_among m c.self.inside.book.rows c.self.invariant.fits.among))
 
 pub plan_moved-requires-clause-sound : goal.plan_moved-requires-clause-sound
-plan_moved-requires-clause-sound g c = sound_here c.laws-2.ensures.sound c.laws.ensures.all_recorded _ _ c.self.invariant c.plan_refold.ensures.same
+plan_moved-requires-clause-sound g c = sound_here _ _ c.self.invariant c.plan_refold.ensures.same
 
 pub plan_moved-requires-clause-sound_after : goal.plan_moved-requires-clause-sound_after
 plan_moved-requires-clause-sound_after g c =
@@ -54,8 +56,8 @@ plan_moved-requires-clause-sound_after g c =
     let anew : relations_after c.in_ok-groups.groups c.plan_refold.new.self ≡ relations (standing (undone_at n.0 rows)) =
     c.in_ok-groups.ensures.after
     ∙ rw (c.in_ok-files.ensures, c.len-2.ensures.rows, c.in_ok-standing.ensures.decisions, c.self.invariant.related)
-    (all_anew c.laws-2.ensures.others_stay m _ _ (standing_among c.laws.ensures.all_recorded m rows among) (left_among c.laws.ensures.all_recorded c.laws.ensures.undoing_keeps_decisions n.0 m rows among)) in
-    rw anew (c.laws-2.ensures.sound _ (left_of_two c.laws.ensures.all_recorded c.laws.ensures.undoing_keeps_decisions n.0 rows c.self.invariant.fits.of_two))
+    (all_anew m _ _ (standing_among m rows among) (left_among n.0 m rows among)) in
+    rw anew (relations-sound _ (left_of_two n.0 rows c.self.invariant.fits.of_two))
 
 pub returns-clause-prepared : goal.returns-clause-prepared
 returns-clause-prepared g c =
@@ -67,7 +69,7 @@ returns-clause-prepared g c =
     let anew : relations_after c.in_ok-groups.groups c.plan_refold.new.self ≡ relations (standing (undone_at n.0 rows)) =
     c.in_ok-groups.ensures.after
     ∙ rw (c.in_ok-files.ensures, c.len-2.ensures.rows, c.in_ok-standing.ensures.decisions, c.self.invariant.related)
-    (all_anew c.laws-2.ensures.others_stay m _ _ (standing_among c.laws.ensures.all_recorded m rows among) (left_among c.laws.ensures.all_recorded c.laws.ensures.undoing_keeps_decisions n.0 m rows among)) in
-    undo_prepared c.records_stay_fit.ensures.after_a_change new (record { number = n; groups = c.in_ok-groups.groups; pairs = c.in_ok-pairs.pairs }) c.row.result c.self.invariant.fits
+    (all_anew m _ _ (standing_among m rows among) (left_among n.0 m rows among)) in
+    undo_prepared new (record { number = n; groups = c.in_ok-groups.groups; pairs = c.in_ok-pairs.pairs }) c.row.result c.self.invariant.fits
     c.row.ensures.row c.if-row.false c.in_ok-groups.ensures.fits anew
     (pairs_moved _ _ _ c.self.inside.pairs c.plan_moved.new.self c.in_ok-pairs.pairs c.self.invariant.paired c.in_ok-pairs.ensures.room c.in_ok-pairs.ensures.near c.in_ok-pairs.ensures.gone c.in_ok-pairs.ensures.of_after)

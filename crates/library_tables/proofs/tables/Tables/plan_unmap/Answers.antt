@@ -46,7 +46,7 @@ returns-clause-prepared c =
     let fresh : is_mapped_so r m ≡ false = search rules in
     let told : answers.Changed (not (is_mapped_so r m)) ≡ answers.Changed (not c.is_same-is_so.result) = search rules in
     let same = c.ready_mapping.ensures.records in
-    mapping_prepared c.records_stay_fit.ensures.after_a_change c.ready_mapping.new.self m c.in_ok-plan.plan _ c.ready_mapping.ensures.fits
+    mapping_prepared c.ready_mapping.new.self m c.in_ok-plan.plan _ c.ready_mapping.ensures.fits
     (ap (λ (r : Records). does r (changes.Mapping m)) same ∙ taken_met r m there c.requires.state known ∙ ap Ok fresh)
     (ap (λ (r : Records). answer_to r (changes.Mapping m)) same ∙ taken_answer r m c.requires.state ∙ told)
     c.in_ok-plan.ensures.ready

@@ -1,5 +1,5 @@
 use Rattle.std.proofs.Common.{slice_get, ◌∙◌}
-use Rattle.library_tables.proofs.Marking.{marks_rebuilt}
+use Rattle.library_tables.proofs.TreeMarks.{marks_rebuilt}
 use Rattle.library_tables.proofs.tables.Tables.rebalance.Goals as goal
 
 pub invariant_of-self : goal.invariant_of-self

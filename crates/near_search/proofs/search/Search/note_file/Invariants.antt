@@ -10,5 +10,5 @@ invariant-loop-hash g l =
     let tree = l.self.tree.now.rows in
     record {
       noted : l.found ≡ l.initial.found ++ flat_map (noted_near tree rows l.self.distance l.self.risen.now l.file) (take l.hash-index l.hash-items);
-      reads : l.steps ≤ l.initial.steps + 4 * sum_by (met tree rows l.self.distance) (take l.hash-index l.hash-items);
+      reads : l.steps ≤ l.initial.steps + 5 * sum_by (met tree rows l.self.distance) (take l.hash-index l.hash-items);
     }

@@ -10,7 +10,7 @@ invariant-loop-other g l =
     let rows = l.self.files.now.rows in
     record {
       noted : l.found ≡ l.initial.found ++ filter_map (near_pair (searched l.self.distance l.self.risen.now rows) l.file) (holders_up_to rows l.word.0 l.after);
-      reads : l.steps ≤ l.initial.steps + 2 * length (holders_up_to rows l.word.0 l.after);
+      reads : l.steps ≤ l.initial.steps + 4 * length (holders_up_to rows l.word.0 l.after);
     }
 
 abbrev pub decreases-loop-other : goal.decreases-loop-other

@@ -20,7 +20,7 @@ returns-in_err-note_holders-clause-reads g c =
     let bits : c.from.result ≡ search.distance = c.from.ensures in
     let are : hits ≡ filter_of tree c.args.hash search.distance = c.as_slice-word-items.ensures ∙ c.in_ok-hits.ensures.found ∙ ap (filter_of tree c.args.hash) bits in
     let count : HashNo × ℕ → ℕ = λ h. holders rows h.0.0 in
-    let some = holder_at c.hash_laws.ensures.held tree rows c.args.hash search.distance c.requires.words hits are i no_hit c.loop-word-test.true in
+    let some = holder_at tree rows c.args.hash search.distance c.requires.words hits are i no_hit c.loop-word-test.true in
     omega (
       arith,
       some,
@@ -43,7 +43,7 @@ loop-word-preserved g c =
     let bits : c.from.result ≡ search.distance = c.from.ensures in
     let are : hits ≡ filter_of tree c.args.hash search.distance = c.as_slice-word-items.ensures ∙ c.in_ok-hits.ensures.found ∙ ap (filter_of tree c.args.hash) bits in
     let count : HashNo × ℕ → ℕ = λ h. holders rows h.0.0 in
-    let some = holder_at c.hash_laws.ensures.held tree rows c.args.hash search.distance c.requires.words hits are i no_hit c.loop-word-test.true in
+    let some = holder_at tree rows c.args.hash search.distance c.requires.words hits are i no_hit c.loop-word-test.true in
     record {
       noted = flat_more (λ (h : HashNo × ℕ). noted_at tree rows search.distance search.risen.now c.args.file h.0.0) c.args.found.now c.loop-word.found c.note_holders.new.found hits i no_hit
           c.loop-word-test.true c.loop-word.invariant.noted c.in_ok-note_holders.ensures.found;

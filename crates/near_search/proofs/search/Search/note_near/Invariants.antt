@@ -9,5 +9,5 @@ invariant-loop-word g l =
     let rows = l.self.files.now.rows in
     record {
       noted : l.found ≡ l.initial.found ++ flat_map (λ hit. noted_at l.self.tree.now.rows rows l.self.distance l.self.risen.now l.file hit.0.0) (take l.word-index l.word-items);
-      reads : l.steps ≤ l.initial.steps + 4 * sum_by (λ hit. holders rows hit.0.0) (take l.word-index l.word-items);
+      reads : l.steps ≤ l.initial.steps + 5 * sum_by (λ hit. holders rows hit.0.0) (take l.word-index l.word-items);
     }

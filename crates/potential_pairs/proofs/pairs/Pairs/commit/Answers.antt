@@ -1,6 +1,6 @@
 use Rattle.std.proofs.Common.{◌≡◌, ◌∙◌, Some, ap}
 use Rattle.potential_pairs.specs.Planning.{after, with_changes, with_live}
-use Rattle.potential_pairs.specs.Potential.{Kept, PairsView}
+use Rattle.potential_pairs.specs.Potential.{KeptPairs, PairsView}
 use Rattle.potential_pairs.specs.Tallies.{if_any, least_counted}
 use Rattle.potential_pairs.proofs.pairs.Pairs.commit.Goals as goal
 
@@ -14,4 +14,4 @@ returns c =
     let made : PairsView = record { near = c.note_all.new.self.rows; gone = c.set_live.new.gone.rows; pairs = c.set_all.new.self.pairs; tallies = c.set_all.new.self.tallies } in
     let inside : PairsView = record { near = c.self.inside.near.rows; gone = c.self.inside.gone.rows; pairs = c.self.inside.tallies.pairs; tallies = c.self.inside.tallies.tallies } in
     let done : made ≡ after c.args.plan inside = λ i. record { near = near i; gone = gone i; pairs = pairs i; tallies = tallies i } in
-    done ∙ ap (λ (kept : Kept). after c.args.plan kept.rows) c.self.view_is
+    done ∙ ap (λ (kept : KeptPairs). after c.args.plan kept.rows) c.self.view_is

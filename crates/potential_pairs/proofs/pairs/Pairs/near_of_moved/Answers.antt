@@ -2,7 +2,7 @@ use Rattle.std.proofs.Common.{◌≡◌, ◌∙◌, ◌<◌, ◌||◌, ℕ, Bool
 use Rattle.std.proofs.lemmas.List.Sums.{sum_by_more, sum_by_more_le, sum_by-take-le}
 use Rattle.relation_groups.specs.declared.moves.Move.{Move}
 use Rattle.potential_pairs.specs.Planning.{has_file}
-use Rattle.potential_pairs.specs.Potential.{Kept, Row}
+use Rattle.potential_pairs.specs.Potential.{KeptPairs, Row}
 use Rattle.potential_pairs.proofs.ReadRows.{counts-touched}
 use Rattle.potential_pairs.proofs.Touched.{has_moved, none_chosen, touched-more}
 use Rattle.potential_pairs.proofs.pairs.Pairs.near_of_moved.Goals as goal
@@ -22,7 +22,7 @@ loop-moved-preserved g c =
     let i = c.loop-moved.moved-index in
     let near : List Row = c.args.self.now.rows.near in
     let inside : List Row = c.self.inside.near.rows in
-    let here : inside ≡ near = ap (λ (kept : Kept). kept.rows.near) c.self.view_is in
+    let here : inside ≡ near = ap (λ (kept : KeptPairs). kept.rows.near) c.self.view_is in
     let within : i < length moves = omega (arith, c.loop-moved-test.true, ap length c.as_slice-moved-items.ensures) in
     let test : ℕ × ℕ → Bool = has_moved (take i moves) in
     let file = ap (λ (list : List Move). (get_or list i no_move).file.0) c.as_slice-moved-items.ensures in
@@ -41,7 +41,7 @@ returns-in_err-add_of_file-clause-reads g c =
     let i = c.loop-moved.moved-index in
     let near : List Row = c.args.self.now.rows.near in
     let inside : List Row = c.self.inside.near.rows in
-    let here : inside ≡ near = ap (λ (kept : Kept). kept.rows.near) c.self.view_is in
+    let here : inside ≡ near = ap (λ (kept : KeptPairs). kept.rows.near) c.self.view_is in
     let within : i < length moves = omega (arith, c.loop-moved-test.true, ap length c.as_slice-moved-items.ensures) in
     let file = ap (λ (list : List Move). (get_or list i no_move).file.0) c.as_slice-moved-items.ensures in
     let same : length (filter (λ (row : Row). has_file (get_or c.as_slice-moved-items.result.now i no_move).file.0 row.0) inside) ≡ length (filter (λ (row : Row). has_file (get_or moves i no_move).file.0 row.0) near) = λ k. length (filter (λ (row : Row). has_file (file k) row.0) (here k)) in

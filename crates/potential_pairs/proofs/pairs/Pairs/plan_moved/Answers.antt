@@ -2,6 +2,7 @@ use Rattle.std.proofs.Common.{None, ◌≡◌, ◌∙◌, ◌<◌, ◌+◌, ◌-
 use Rattle.std.proofs.lemmas.List.Elements.{All-filter}
 use Rattle.spare_tables.specs.Keys.{value_of}
 use Rattle.spare_tables.specs.Order.{pair_cmp}
+use Rattle.relation_groups.specs.NamedLaws.{reading-named}
 use Rattle.relation_groups.specs.Laws.{AreNamed}
 use Rattle.relation_groups.specs.Reading.{relations_after, relations_in, size_of}
 use Rattle.relation_groups.specs.Relations.{Relations}
@@ -75,10 +76,10 @@ loop-f-init g c =
     let list : List Move = c.args.moved.now.moves in
     let old : Name = live_name R rows.gone in
     let new : Name = live_name Q rows.gone in
-    let named : AreNamed Q = subst AreNamed c.groups_after-after.ensures.relations (c.reading_laws.ensures.named c.groups_after-after.result.now) in
+    let named : AreNamed Q = subst AreNamed c.groups_after-after.ensures.relations (reading-named c.groups_after-after.result.now) in
     let others : (files : ℕ × ℕ) (e : ℕ) → value_of pair_cmp rows.near files ≡ Some e → has_moved list files ≡ false → new files ≡ old files = λ files e has none.
     let below = below-value n rows.near files e c.requires.below has in
-    untouched_name n R Q rows.gone list c.requires.moves c.requires.sound (c.reading_laws.ensures.named c.args.groups.now) c.requires.sound_after named files (omega (arith, below.0, below.1)) below.1 none in
+    untouched_name n R Q rows.gone list c.requires.moves c.requires.sound (reading-named c.args.groups.now) c.requires.sound_after named files (omega (arith, below.0, below.1)) below.1 none in
     record {
       counts = λ name d.
           counts-nothing R c.new-plan.result rows c.new-plan.ensures.near c.new-plan.ensures.tallies c.new-plan.ensures.live c.requires.of name d

@@ -4,7 +4,7 @@ use Rattle.spare_tables.specs.Keys.{value_of}
 use Rattle.spare_tables.specs.Order.{pair_cmp}
 use Rattle.relation_groups.specs.Reading.{relations_in}
 use Rattle.potential_pairs.specs.Naming.{live_name, weight}
-use Rattle.potential_pairs.specs.Potential.{Kept}
+use Rattle.potential_pairs.specs.Potential.{KeptPairs}
 use Rattle.potential_pairs.proofs.Clauses.{on_ok, on_ok_always}
 use Rattle.potential_pairs.proofs.PlannedRows.{counted-added, length-near_added, near-added, near-known, near-new, planned_count-kept}
 use Rattle.potential_pairs.proofs.pairs.Pairs.plan_near.Goals as goal
@@ -15,7 +15,7 @@ returns-then-has_near-clause-near g c =
     let rows = c.args.self.now.rows in
     let plan = c.args.plan.now in
     let files : ℕ × ℕ = (c.args.found.0.0, c.args.found.1.0) in
-    let here = ap (λ (kept : Kept). is_some (value_of pair_cmp kept.rows.near files)) c.self.view_is in
+    let here = ap (λ (kept : KeptPairs). is_some (value_of pair_cmp kept.rows.near files)) c.self.view_is in
     let known : (is_some (value_of pair_cmp rows.near files) ≡ true) ⊎ (is_some (value_of pair_cmp plan.near files) ≡ true) = elim c.then-has_near.branch [
       | then-has_near-via-then-has_near w ↦ inr (sym c.has_near.ensures.value ∙ w.if-has_near.true)
       | then-has_near-via-else-has_near+then-contains w ↦ inl (sym here ∙ sym w.contains.ensures.value ∙ w.if-contains.true)
@@ -34,7 +34,7 @@ returns-clause-counted g c =
     let plan = c.args.plan.now in
     let files : ℕ × ℕ = (c.args.found.0.0, c.args.found.1.0) in
     let naming = live_name (relations_in c.args.groups.now) rows.gone in
-    let here = ap (λ (kept : Kept). is_some (value_of pair_cmp kept.rows.near files)) c.self.view_is in
+    let here = ap (λ (kept : KeptPairs). is_some (value_of pair_cmp kept.rows.near files)) c.self.view_is in
     let none = near-new rows plan files c.in_order.ensures.near c.has_near.ensures.sorted (sym here ∙ sym c.contains.ensures.value ∙ c.if-contains.false) (sym c.has_near.ensures.value ∙ c.if-has_near.false) in
     on_ok c.plan_more.result (λ counts.
     counted-added naming rows plan c.plan_more.new.plan files c.args.found.2 c.in_order.ensures.near c.has_near.ensures.sorted (c.plan_more.ensures.near ∙ c.in_ok-add_near.ensures.near) none
@@ -46,6 +46,6 @@ returns-clause-more g c =
     let rows = c.args.self.now.rows in
     let plan = c.args.plan.now in
     let files : ℕ × ℕ = (c.args.found.0.0, c.args.found.1.0) in
-    let here = ap (λ (kept : Kept). is_some (value_of pair_cmp kept.rows.near files)) c.self.view_is in
+    let here = ap (λ (kept : KeptPairs). is_some (value_of pair_cmp kept.rows.near files)) c.self.view_is in
     on_ok_always c.plan_more.result (length-near_added rows plan c.plan_more.new.plan files c.args.found.2 c.in_order.ensures.near c.has_near.ensures.sorted (c.plan_more.ensures.near ∙ c.in_ok-add_near.ensures.near)
     (sym here ∙ sym c.contains.ensures.value ∙ c.if-contains.false) (sym c.has_near.ensures.value ∙ c.if-has_near.false))

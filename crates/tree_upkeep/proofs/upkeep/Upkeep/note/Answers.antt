@@ -1,6 +1,6 @@
 use Rattle.std.proofs.Common.{true, false, sym, ap, ◌∙◌, subst}
 use Rattle.tree_upkeep.specs.Queue.{Work, Ascend, noted}
-use Rattle.tree_upkeep.proofs.Places.{put_in, taken_out, ascend-noted}
+use Rattle.tree_upkeep.specs.PlaceLaws.{put_in, taken_out, ascend-noted}
 use Rattle.tree_upkeep.proofs.upkeep.Upkeep.note.Goals as goal
 
 -- ---- the file is put in
