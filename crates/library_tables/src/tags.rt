@@ -175,9 +175,9 @@ impl Tables {
         if !self.has_tag(&mapping.tag) {
             return Ok(Unmet::UnknownTag.into());
         }
-        let is_so = is_same(found, mapping.state);
-        let answer = Answer::Changed(!is_so);
-        if is_so {
+        let is_gone = is_same(found, mapping.state);
+        let answer = Answer::Changed(!is_gone);
+        if is_gone {
             return Ok(Prepared::Idle(answer));
         }
         let plan = self.ready_mapping(mapping)?;

@@ -18,8 +18,8 @@ returns-then-not-has_tag-clause-prepared c =
     let done = no_such_tag r m there c.requires.state new in
     search rules
 
-pub returns-then-is_so-clause-prepared : goal.returns-then-is_so-clause-prepared
-returns-then-is_so-clause-prepared c =
+pub returns-then-is_gone-clause-prepared : goal.returns-then-is_gone-clause-prepared
+returns-then-is_gone-clause-prepared c =
     let r = records_of c.args.self.now in
     let m = c.args.mapping.now in
     let there : IsOfThere r m = record { file = c.requires.file; service = c.requires.service } in
@@ -44,7 +44,7 @@ returns-clause-prepared c =
     let there : IsOfThere r m = record { file = c.requires.file; service = c.requires.service } in
     let known : has_tag r m.tag ≡ true = search rules in
     let fresh : is_mapped_so r m ≡ false = search rules in
-    let told : answers.Changed (not (is_mapped_so r m)) ≡ answers.Changed (not c.is_same-is_so.result) = search rules in
+    let told : answers.Changed (not (is_mapped_so r m)) ≡ answers.Changed (not c.is_same-is_gone.result) = search rules in
     let same = c.ready_mapping.ensures.records in
     mapping_prepared c.ready_mapping.new.self m c.in_ok-plan.plan _ c.ready_mapping.ensures.fits
     (ap (λ (r : Records). does r (changes.Mapping m)) same ∙ taken_met r m there c.requires.state known ∙ ap Ok fresh)
