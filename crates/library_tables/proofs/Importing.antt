@@ -1,9 +1,8 @@
 -- What is prepared for an import is what it comes to.
-use Rattle.std.proofs.Common.{◌≡◌, ◌≤◌, ℕ, Bool, true, false, nat_lt, ◌==◌, ◌&&◌, Some, None, Ok, [], ◌∷◌, ◌++◌, List, length, not, refl, arith, ap, subst, sym, ◌∙◌}
+use Rattle.std.proofs.Common.{◌≡◌, ◌≤◌, ℕ, Bool, true, false, nat_lt, ◌==◌, ◌&&◌, None, Ok, [], ◌∷◌, ◌++◌, length, not, refl, arith, ap, sym, ◌∙◌}
 use Rattle.std.proofs.lemmas.Bool.{lt-ltb, eqb-true, eqb-false}
 use Rattle.media_types.specs.declared.limits.TheConstants.{MAX_FILES}
 use Rattle.media_types.specs.declared.new_file.NewFile.{NewFile}
-use Rattle.media_base.specs.declared.change.Change.{Change}
 use Rattle.media_base.specs.declared.change.Change.TheVariants as changes
 use Rattle.media_base.specs.declared.reply.Answer.TheVariants as answers
 use Rattle.media_base.specs.declared.reply.ImportStatus.TheVariants as imports
