@@ -1,5 +1,5 @@
 -- What is prepared for a decision and an undoing is what they come to, and relations are told as they are.
-use Rattle.std.proofs.Common.{◌≡◌, ◌≤◌, ℕ, Bool, true, false, nat_lt, ◌==◌, ◌&&◌, Some, Ok, List, [], ◌∷◌, ◌++◌, length, slice_get, refl, ap, subst, sym, ◌∙◌}
+use Rattle.std.proofs.Common.{◌≡◌, ◌≤◌, ℕ, true, false, nat_lt, ◌==◌, ◌&&◌, Some, Ok, List, [], ◌∷◌, ◌++◌, length, slice_get, refl, ap, subst, sym, ◌∙◌}
 use Rattle.std.proofs.lemmas.Bool.{ltb-true, lt-ltb, eqb-false, and_parts}
 use Rattle.std.proofs.lemmas.Option.{same_Some, slice_get_within}
 use Rattle.media_types.specs.declared.decision.Decision.{Decision}
@@ -16,9 +16,9 @@ use Rattle.decision_book.specs.Standing as book
 use Rattle.decision_book.specs.DecisionLaws.{one_more}
 use Rattle.relation_groups.specs.FoldLaws.{after-push}
 use Rattle.relation_groups.specs.Laws.{AreSound}
-use Rattle.relation_groups.specs.Reading.{Kept, IsPlanFor, Planned, relations_after, relations_in, size_of}
+use Rattle.relation_groups.specs.Reading.{Kept, IsPlanFor, Planned, relations_after, relations_in}
 use Rattle.relation_groups.specs.SoundLaws.{relations-sound}
-use Rattle.relation_groups.specs.Relations.{Relations, after, by_code, decided, relations, relations_at, standing_of}
+use Rattle.relation_groups.specs.Relations.{Relations, by_code, decided, relations, relations_at, standing_of}
 use Rattle.library_machine.specs.Asking.{asked, answer, query_needs}
 use Rattle.library_machine.specs.Changing.{answer_to, does, effect, is_idle, needs}
 use Rattle.library_machine.specs.GoodLaws.{changes_keep_fit}

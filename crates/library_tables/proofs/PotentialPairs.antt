@@ -1,17 +1,14 @@
 -- The pairs that are kept are the potential pairs of the records.
-use Rattle.std.proofs.Common.{◌≡◌, ◌<◌, ℕ, List, length, map, refl, ap, sym, ◌∙◌}
-use Rattle.std.specs.List.{All}
+use Rattle.std.proofs.Common.{◌≡◌, ◌<◌, ℕ, List, length, refl, sym, ◌∙◌}
 use Rattle.std.proofs.lemmas.Bool.{ltb-true, lt-ltb}
 use Rattle.media_types.specs.declared.decision.Decision.{Decision}
 use Rattle.file_records.specs.NearLaws.{below}
-use Rattle.file_records.specs.Near.{near_pairs}
-use Rattle.file_records.specs.declared.file_row.FileRow.{FileRow}
 use Rattle.relation_groups.specs.Clusters.{IsClosed}
 use Rattle.relation_groups.specs.ClosedLaws.{closed-split}
 use Rattle.relation_groups.specs.Reading.{is_below, relations_in}
-use Rattle.relation_groups.specs.Relations.{AreAmong, Relations, relations}
+use Rattle.relation_groups.specs.Relations.{AreAmong, relations}
 use Rattle.potential_pairs.specs.PotentialLaws.{pairs-are_potential}
-use Rattle.potential_pairs.specs.Potential.{AreBelow, AreOf, PairsView, potentials}
+use Rattle.potential_pairs.specs.Potential.{AreBelow}
 use Rattle.library_machine.specs.Asking.{potential_pairs}
 use Rattle.library_tables.specs.Tables.{TablesView, AreInStep, records_of}
 use Rattle.library_tables.proofs.Refolding.{standing_among}

@@ -1,6 +1,6 @@
 -- An undoing makes the decisions of all files anew.
 use Rattle.std.proofs.Common.{◌≡◌, ◌≢◌, ◌<◌, ◌≤◌, ◌+◌, ℕ, zero, suc, Bool, true, false, not, cond, ◌==◌, ◌||◌, List, [], ◌∷◌, map, All, refl, arith, ap, sym, ◌∙◌}
-use Rattle.std.specs.List.{range_with_len, AllByRecursion, Contains}
+use Rattle.std.specs.List.{range_with_len, AllByRecursion}
 use Rattle.std.proofs.lemmas.Bool.{eqb-false}
 use Rattle.std.proofs.lemmas.List.Elements.{All-contains, All-from_recursion, recursion_from_All}
 use Rattle.media_types.specs.declared.decision.Decision.{Decision}
@@ -9,7 +9,7 @@ use Rattle.decision_book.specs.declared.decision_row.DecisionRow.{DecisionRow}
 use Rattle.decision_book.specs.Recorded.{undone_at}
 use Rattle.decision_book.specs.Standing.{decision_of, standing}
 use Rattle.decision_book.specs.DecisionLaws.{all_recorded, undoing_keeps_decisions}
-use Rattle.relation_groups.specs.Clusters.{IsClosed, IsSplitBy, IsWithin, is_one_of, outside, patched, touching}
+use Rattle.relation_groups.specs.Clusters.{IsSplitBy, IsWithin, is_one_of, outside, patched, touching}
 use Rattle.relation_groups.specs.ClosedLaws.{closed-split, others-stay, within-closed}
 use Rattle.relation_groups.specs.Laws.{AreOfTwo}
 use Rattle.media_types.specs.Numbered.{files}

@@ -1,17 +1,10 @@
 -- Which pairs the rows of one file give, in either order.
-use Rattle.std.proofs.Common.{◌≡◌, ◌∙◌, ◌≤◌, ◌+◌, ◌==◌, ◌||◌, ℕ, zero, suc, Bool, true, false, cond, leb, ltb, leb-true, leb-false, ltb-false, List, [], ◌∷◌, Option, Some, None, length, take, drop, filter, get_or, refl, sym, ap, subst, inl, inr, arith}
-use Rattle.std.specs.List.{AllWithin}
-use Rattle.std.specs.List.Sorted.{IsNonDecreasingBy}
-use Rattle.std.specs.Map.{keys_of}
-use Rattle.std.specs.declared.cmp.Ordering.TheVariants.{Less}
-use Rattle.std.proofs.lemmas.Bool.{cases_eq, eq-eqb, ltb-true, ne_eqb}
-use Rattle.std.proofs.lemmas.List.{get_or-drop, get_or-map, length-drop, length-map}
-use Rattle.std.proofs.lemmas.Map.Keys.{Less-from_sorted}
+use Rattle.std.proofs.Common.{◌≡◌, ◌∙◌, ◌==◌, ◌||◌, ℕ, Bool, true, false, cond, List, [], ◌∷◌, Option, Some, None, filter, refl, sym, ap, subst, inl, inr}
+use Rattle.std.proofs.lemmas.Bool.{cases_eq, eq-eqb, ne_eqb}
 use Rattle.spare_tables.specs.EditLaws.{same_rows}
 use Rattle.spare_tables.specs.Keys.{value_of}
 use Rattle.spare_tables.specs.Order.{pair_cmp, pair_exact}
-use Rattle.spare_tables.specs.PairLaws.{pair_less, pair_order}
-use Rattle.spare_tables.specs.Pairs.{IsBefore}
+use Rattle.spare_tables.specs.PairLaws.{pair_order}
 use Rattle.potential_pairs.specs.Keeping.{AreNearRows, turned}
 use Rattle.potential_pairs.specs.Levels.{Ascend}
 use Rattle.potential_pairs.specs.Planning.{has_file, with_changes}

@@ -1,17 +1,12 @@
 -- Pairs that one list has and another lacks.
-use Rattle.std.proofs.Common.{◌≡◌, ◌≢◌, ◌∙◌, ℕ, zero, suc, ◌+◌, ◌<◌, ◌≤◌, ◌==◌, ◌&&◌, ◌||◌, not, Bool, true, false, cond, List, [], ◌∷◌, length, get_or, map, take, All, refl, sym, ap, inl, inr, arith}
-use Rattle.std.proofs.Math.Bool.{or-false, or_assoc}
-use Rattle.std.proofs.Math.ListN.{set, length-set}
+use Rattle.std.proofs.Common.{◌≡◌, ◌≢◌, ◌∙◌, ℕ, zero, suc, ◌+◌, ◌<◌, ◌≤◌, ◌==◌, ◌&&◌, ◌||◌, not, Bool, true, false, List, [], ◌∷◌, map, All, refl, sym, ap, inl, inr, arith}
 use Rattle.std.proofs.lemmas.Bool.{false≢true, and_from, and_parts, eqb-true, not-true, or_cases, or_left, or_right}
 use Rattle.std.proofs.lemmas.Bool.Decides.{nat_tests, eqb_tells, same_from_decides}
-use Rattle.std.proofs.lemmas.List.{take_more}
-use Rattle.std.proofs.lemmas.List.Folds.{list_any-append}
 use Rattle.std.specs.List.{list_any, range_with_len}
 use Rattle.relation_groups.specs.Moves.{differ}
 use Rattle.relation_groups.specs.Numbers.{has, is_of, lacks}
 use Rattle.media_types.specs.Numbered.{files}
 use Rattle.relation_groups.proofs.Lists.{file}
-use Rattle.relation_groups.proofs.Writes.{get_or-set}
 
 -- either order
 is_of-sym : (p : ℕ × ℕ) (c d : ℕ) → is_of p c d ≡ is_of p d c

@@ -1,11 +1,11 @@
-use Rattle.std.proofs.Common.{◌≡◌, ◌≢◌, ◌∙◌, ◌++◌, ◌∷◌, [], List, refl, sym, ap, subst, rules}
+use Rattle.std.proofs.Common.{◌≡◌, ◌≢◌, ◌∙◌, ◌++◌, ◌∷◌, [], List, sym, ap, subst, rules}
 use Rattle.std.proofs.lemmas.List.Elements.{All-push}
 use Rattle.media_types.specs.declared.decision.Decision.{Decision}
 use Rattle.relation_groups.specs.FoldLaws.{after-push}
 use Rattle.relation_groups.specs.SoundLaws.{relations-sound}
 use Rattle.relation_groups.specs.Laws.{AreOfTwo, AreSound}
 use Rattle.relation_groups.specs.Reading.{relations_in}
-use Rattle.relation_groups.specs.Relations.{Relations, after, at_first, by_code, decided, relations}
+use Rattle.relation_groups.specs.Relations.{Relations, after, at_first, by_code, relations}
 use Rattle.potential_pairs.proofs.tests.decide_in_both.Goals as goal
 
 -- what decisions make, and one more

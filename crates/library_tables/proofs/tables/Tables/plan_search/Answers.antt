@@ -4,12 +4,11 @@ use Rattle.media_types.specs.declared.limits.TheConstants.{MAX_NEAR}
 use Rattle.media_types.specs.declared.numbers.FileNo.{FileNo}
 use Rattle.media_base.specs.declared.reply.Answer.TheVariants as answers
 use Rattle.file_records.specs.Near.{near_pairs}
-use Rattle.file_records.specs.SearchLaws.{enough, known}
+use Rattle.file_records.specs.SearchLaws.{enough}
 use Rattle.file_records.specs.Searching.{queue_of, rising, searched}
 use Rattle.relation_groups.specs.Reading.{relations_in}
 use Rattle.std.proofs.lemmas.Grind.{common_steps}
 use Rattle.library_machine.specs.Changing.{answer_to, effect, is_idle, needs}
-use Rattle.library_machine.specs.GoodLaws.{changes_keep_fit}
 use Rattle.library_machine.specs.Needs.{has_file}
 use Rattle.library_machine.specs.Records.{Records}
 use Rattle.library_tables.specs.Pairs.{LeadsPairs}
