@@ -1,0 +1,47 @@
+ghost use Rattle.std.specs.Prelude.{◌≡◌, ◌==◌, true, length, map};
+ghost use Rattle.std.specs.List.{list_any};
+ghost use Rattle.sibling_chains.specs.Ends.{end_beside, ends, led_on};
+
+// The end, or where the chain goes on from there.
+fn end_led_on(end: u32, bad: u32, to: u32) -> u32
+    ensures { result ≡ led_on bad to end }
+{
+    if end == bad { to } else { end }
+}
+
+// Leads each chain that ends at the bad tag on to another end.
+fn lead_on(chain_ends: &mut Vec<u32>, bad: u32, to: u32)
+    ensures { chain_ends.new.items ≡ map (led_on bad to) chain_ends.old.items }
+{
+    for end in chain_ends.iter_mut() {
+        *end = end_led_on(*end, bad, to);
+    }
+}
+
+// The end of a tag of a cluster; a tag of none is its own.
+fn end_in(tags: &[u32], chain_ends: &[u32], tag: u32) -> u32
+    requires { length chain_ends.now ≡ length tags.now }
+    ensures { result ≡ end_beside tags.now chain_ends.now tag }
+{
+    for at in 0..tags.len() {
+        if tags[at] == tag {
+            return chain_ends[at];
+        }
+    }
+    tag
+}
+
+/// Meets one more pair of a cluster, and takes it unless it is passed over. It looks at each tag.
+pub fn meet(tags: &[u32], chain_ends: &mut Vec<u32>, bad: u32, good: u32)
+    requires len { length chain_ends.old.items ≡ length tags.now }
+    requires bad_there { list_any (λ t. t == bad) tags.now ≡ true }
+    ensures len { length chain_ends.new.items ≡ length tags.now }
+    ensures met { end_beside tags.now chain_ends.new.items
+        ≡ ends (bad, good) (end_beside tags.now chain_ends.old.items) }
+{
+    let to = end_in(tags, chain_ends.as_slice(), good);
+    let own = end_in(tags, chain_ends.as_slice(), bad);
+    if own == bad && to != bad {
+        lead_on(chain_ends, bad, to);
+    }
+}
