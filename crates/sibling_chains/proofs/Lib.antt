@@ -1,2 +1,4 @@
 pub mod Beside
+pub mod GroupLists
 pub mod Lists
+pub mod Puts

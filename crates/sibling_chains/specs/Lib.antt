@@ -3,5 +3,7 @@ pub mod Clusters
 pub mod EndLaws
 pub mod Ends
 pub mod Following
+pub mod Grouping
 pub mod LabelLaws
+pub mod PairTable
 pub mod Recorded

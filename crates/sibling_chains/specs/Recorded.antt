@@ -1,5 +1,6 @@
 -- The rows of relations, and what a service makes of the sibling pairs among them.
-use Rattle.std.specs.Prelude.{ℕ, zero, suc, Bool, false, [], ◌∷◌, ◌==◌, ◌&&◌, if◌then◌else◌, List, map, filter, flat_map}
+use Rattle.std.specs.Prelude.{ℕ, zero, suc, Bool, false, [], ◌∷◌, ◌==◌, ◌&&◌, if◌then◌else◌, List, map, filter, flat_map, Option, Some, None}
+use Rattle.std.specs.Option.{option_map}
 use Rattle.media_types.specs.declared.numbers.ServiceNo.{ServiceNo}
 use Rattle.sibling_chains.specs.declared.relation_row.RelationRow.{RelationRow}
 use Rattle.sibling_chains.specs.Following.{Pair, ideal_by}
@@ -42,3 +43,8 @@ standing_place s first (row ∷ rows) = if stands_for s first row then 0 else su
 -- stands for a row that isn't there
 abbrev pub no_row : RelationRow
 no_row = record { service = record { 0 = 0 }; first = record { 0 = 0 }; second = record { 0 = 0 }; standing = false }
+
+-- the number of that row, where there is one
+abbrev pub standing_at : ℕ → ℕ → List RelationRow → Option ℕ
+standing_at s first [] = None
+standing_at s first (row ∷ rows) = if stands_for s first row then Some 0 else option_map suc (standing_at s first rows)

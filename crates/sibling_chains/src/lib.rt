@@ -1,7 +1,10 @@
 //! Siblings of tags: which tag stands for another, for each service, and the clusters into which tags fall.
 #![tactic(auto)]
 
+mod chain_ends;
 mod fold;
+mod grouped;
+mod pair_rows;
 mod relation_row;
 
 pub use relation_row::RelationRow;
