@@ -1,6 +1,12 @@
-ghost use Rattle.std.specs.Prelude.{◌≡◌, ◌==◌, true, length, map};
+ghost use Rattle.std.specs.Prelude.{◌≡◌, ◌==◌, ℕ, true, length, map, All, IfOk};
 ghost use Rattle.std.specs.List.{list_any};
-ghost use Rattle.sibling_chains.specs.Ends.{end_beside, ends, led_on};
+ghost use Rattle.sibling_chains.specs.Ends.{end_beside, ends, ends_after, led_on};
+ghost use Rattle.sibling_chains.specs.Recorded.{ideal, pairs_of};
+
+use crate::relation_row::RelationRow;
+use media_types::{NoMemory, ServiceNo};
+use std::alloc::Global;
+use tag_types::ServiceList;
 
 // The end, or where the chain goes on from there.
 fn end_led_on(end: u32, bad: u32, to: u32) -> u32
@@ -31,8 +37,8 @@ fn end_in(tags: &[u32], chain_ends: &[u32], tag: u32) -> u32
     tag
 }
 
-/// Meets one more pair of a cluster, and takes it unless it is passed over. It looks at each tag.
-pub fn meet(tags: &[u32], chain_ends: &mut Vec<u32>, bad: u32, good: u32)
+// Meets one more pair of a cluster, and takes it unless it is passed over. It looks at each tag.
+fn meet(tags: &[u32], chain_ends: &mut Vec<u32>, bad: u32, good: u32)
     requires len { length chain_ends.old.items ≡ length tags.now }
     requires bad_there { list_any (λ t. t == bad) tags.now ≡ true }
     ensures len { length chain_ends.new.items ≡ length tags.now }
@@ -44,4 +50,38 @@ pub fn meet(tags: &[u32], chain_ends: &mut Vec<u32>, bad: u32, good: u32)
     if own == bad && to != bad {
         lead_on(chain_ends, bad, to);
     }
+}
+
+// Meets the standing pairs of a service among the rows of a cluster.
+fn meet_all(tags: &[u32], chain_ends: &mut Vec<u32>, rows: &[RelationRow], service: ServiceNo)
+    requires len { length chain_ends.old.items ≡ length tags.now }
+    requires there { All (λ row. list_any (λ t. t == row.first.0) tags.now ≡ true) rows.now }
+    ensures len { length chain_ends.new.items ≡ length tags.now }
+    ensures met { end_beside tags.now chain_ends.new.items
+        ≡ ends_after (pairs_of rows.now service) (end_beside tags.now chain_ends.old.items) }
+{
+    for row in rows {
+        if row.standing && row.service.0 == service.0 {
+            meet(tags, chain_ends, row.first.0, row.second.0);
+        }
+    }
+}
+
+/// The ends of the chains of a cluster's tags, from its rows in order of recording, for a service that takes
+/// pairs from these services. For each pair it looks at each tag.
+pub fn fold_cluster(
+    alloc: Global,
+    tags: &[u32],
+    rows: &[RelationRow],
+    order: &ServiceList,
+) -> Result<Vec<u32>, NoMemory>
+    requires { All (λ row. list_any (λ t. t == row.first.0) tags.now ≡ true) rows.now }
+    ensures len { IfOk result (λ v. length v.items ≡ length tags.now) }
+    ensures ends { IfOk result (λ v. (t : ℕ) → end_beside tags.now v.items t ≡ ideal order.now rows.now t) }
+{
+    let mut chain_ends = Vec::from_slice(alloc, tags)?;
+    for service in order.as_slice() {
+        meet_all(tags, &mut chain_ends, rows, *service);
+    }
+    Ok(chain_ends)
 }

@@ -105,8 +105,10 @@ impl PairRows {
         ensures good { option_map (λ t. t.0) result ≡ good_of (pairs_of self.now.rows service) bad.0 }
         ensures steps { steps.new ≤ steps.old + 2 }
     {
-        let at = self.place_of(service, bad, steps)?;
-        Some(self.row(at, steps).second)
+        match self.place_of(service, bad, steps) {
+            Some(at) => Some(self.row(at, steps).second),
+            None => None,
+        }
     }
 
     /// Records a pair, in the room that was made.
