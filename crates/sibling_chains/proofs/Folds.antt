@@ -25,31 +25,24 @@ pub after-append : (xs ys : List Pair) (end : ℕ → ℕ) → ends_after (xs ++
 after-append [] ys end = refl
 after-append (p ∷ xs) ys end = after-append xs ys (ends p end)
 
--- the pairs of one more row
-abbrev pub pairs_at : RelationRow → ServiceNo → List Pair
-pairs_at row s = cond (row.standing && row.service.0 == s.0) (pair_of row ∷ []) []
-
-pairs_of-push : (rows : List RelationRow) (row : RelationRow) (s : ServiceNo) → pairs_of (rows ++ row ∷ []) s ≡ pairs_of rows s ++ pairs_at row s
-pairs_of-push [] row s = by (row.standing && row.service.0 == s.0)
-  where
-    by : (b : Bool) → map pair_of (cond b (row ∷ []) []) ≡ cond b (pair_of row ∷ []) []
-    by true = refl
-    by false = refl
+pairs_of-push : (rows : List RelationRow) (row : RelationRow) (s : ServiceNo) → pairs_of (rows ++ row ∷ []) s ≡ pairs_of rows s ++ pairs_of (row ∷ []) s
+pairs_of-push [] row s = refl
 pairs_of-push (r ∷ rows) row s = by (r.standing && r.service.0 == s.0) (pairs_of-push rows row s)
   where
-    by : (b : Bool) → pairs_of (rows ++ row ∷ []) s ≡ pairs_of rows s ++ pairs_at row s
+    by : (b : Bool) → pairs_of (rows ++ row ∷ []) s ≡ pairs_of rows s ++ pairs_of (row ∷ []) s
         → map pair_of (cond b (r ∷ filter (λ q. q.standing && q.service.0 == s.0) (rows ++ row ∷ [])) (filter (λ q. q.standing && q.service.0 == s.0) (rows ++ row ∷ [])))
-        ≡ map pair_of (cond b (r ∷ filter (λ q. q.standing && q.service.0 == s.0) rows) (filter (λ q. q.standing && q.service.0 == s.0) rows)) ++ pairs_at row s
+        ≡ map pair_of (cond b (r ∷ filter (λ q. q.standing && q.service.0 == s.0) rows) (filter (λ q. q.standing && q.service.0 == s.0) rows)) ++ pairs_of (row ∷ []) s
     by true e = ap (λ l. pair_of r ∷ l) e
     by false e = e
 
 -- one more row is met
-pub after-row : (rows : List RelationRow) (s : ServiceNo) (i : ℕ) (row : RelationRow) (end : ℕ → ℕ) → i < length rows → row ≡ get_or rows i row
-    → ends_after (pairs_of (take (i + 1) rows) s) end ≡ ends_after (pairs_at row s) (ends_after (pairs_of (take i rows) s) end)
-after-row rows s i row end h is =
-    ap (λ l. ends_after (pairs_of l s) end) (take_more rows i row h ∙ ap (λ r. take i rows ++ r ∷ []) (sym is))
+pub after-row : (rows : List RelationRow) (s : ServiceNo) (i : ℕ) (d : RelationRow) (end : ℕ → ℕ) → i < length rows
+    → ends_after (pairs_of (take (i + 1) rows) s) end ≡ ends_after (pairs_of (get_or rows i d ∷ []) s) (ends_after (pairs_of (take i rows) s) end)
+after-row rows s i d end h =
+    let row : RelationRow = get_or rows i d in
+    ap (λ l. ends_after (pairs_of l s) end) (take_more rows i d h)
     ∙ ap (λ l. ends_after l end) (pairs_of-push (take i rows) row s)
-    ∙ after-append (pairs_of (take i rows) s) (pairs_at row s) end
+    ∙ after-append (pairs_of (take i rows) s) (pairs_of (row ∷ []) s) end
 
 flat-push : (rows : List RelationRow) (order : List ServiceNo) (s : ServiceNo) → pairs_in (order ++ s ∷ []) rows ≡ pairs_in order rows ++ pairs_of rows s
 flat-push rows [] s = append-none (pairs_of rows s)
@@ -60,9 +53,10 @@ flat-push rows [] s = append-none (pairs_of rows s)
 flat-push rows (r ∷ order) s = ap (λ l. pairs_of rows r ++ l) (flat-push rows order s) ∙ sym (append_assoc (pairs_of rows r) (pairs_in order rows) (pairs_of rows s))
 
 -- the pairs of one more service are met
-pub after-service : (rows : List RelationRow) (order : List ServiceNo) (i : ℕ) (s : ServiceNo) (end : ℕ → ℕ) → i < length order → s ≡ get_or order i s
-    → ends_after (pairs_in (take (i + 1) order) rows) end ≡ ends_after (pairs_of rows s) (ends_after (pairs_in (take i order) rows) end)
-after-service rows order i s end h is =
-    ap (λ l. ends_after (pairs_in l rows) end) (take_more order i s h ∙ ap (λ x. take i order ++ x ∷ []) (sym is))
+pub after-service : (rows : List RelationRow) (order : List ServiceNo) (i : ℕ) (d : ServiceNo) (end : ℕ → ℕ) → i < length order
+    → ends_after (pairs_in (take (i + 1) order) rows) end ≡ ends_after (pairs_of rows (get_or order i d)) (ends_after (pairs_in (take i order) rows) end)
+after-service rows order i d end h =
+    let s : ServiceNo = get_or order i d in
+    ap (λ l. ends_after (pairs_in l rows) end) (take_more order i d h)
     ∙ ap (λ l. ends_after l end) (flat-push rows (take i order) s)
     ∙ after-append (pairs_in (take i order) rows) (pairs_of rows s) end

@@ -1,8 +1,8 @@
 -- Groups of numbers, and the pairs of a label and a number in which they are kept.
-use Rattle.std.proofs.Common.{◌≡◌, ◌≢◌, ◌∙◌, ◌↔◌, ◌⊎◌, ℕ, zero, suc, ◌+◌, ◌-◌, ◌<◌, ◌≤◌, ◌==◌, ◌&&◌, ◌||◌, Bool, true, false, cond, ltb, List, [], ◌∷◌, ◌++◌, length, filter, get_or, set, take, Option, Some, None, Contains, refl, sym, ap, subst, inl, inr, add-one, arith}
+use Rattle.std.proofs.Common.{◌≡◌, ◌≢◌, ◌∙◌, ◌↔◌, ◌⊎◌, ℕ, zero, suc, ◌+◌, ◌-◌, ◌<◌, ◌≤◌, ◌==◌, ◌&&◌, ◌||◌, Bool, true, false, cond, ltb, List, [], ◌∷◌, ◌++◌, length, map, filter, get_or, set, take, Option, Some, None, Contains, refl, sym, ap, subst, inl, inr, add-one, arith}
 use Rattle.std.specs.List.{list_any, range_with_len}
 use Rattle.std.proofs.lemmas.Bool.{cases_Bool, cases_eq, cases_lt, eqb-true, eq-eqb, ne_eqb, false_from_ne_true, lt-ltb, le-ltb}
-use Rattle.std.proofs.lemmas.List.{get_or_append_left, get_or-set_same, get_or-set_other, get_or_past, length-set, length_push}
+use Rattle.std.proofs.lemmas.List.{append_assoc, get_or_append_left, get_or-set_same, get_or-set_other, get_or_past, length-set, length_push}
 use Rattle.std.proofs.lemmas.List.Elements.{filter-append}
 use Rattle.std.proofs.lemmas.List.Folds.{list_any-append}
 use Rattle.spare_tables.specs.Pairs.{IsLeastSecondFrom}
@@ -63,6 +63,42 @@ passed-le test from (suc k) m e =
     length-more : (xs ys : List ℕ) → length xs ≤ length (xs ++ ys)
     length-more [] ys = omega arith
     length-more (x ∷ xs) ys = omega (arith, length-more xs ys)
+
+pub passed-same : (p q : ℕ → Bool) (n : ℕ) → ((k : ℕ) → k < n → p k ≡ q k) → filter p (range_with_len 0 n) ≡ filter q (range_with_len 0 n)
+passed-same p q zero h = refl
+passed-same p q (suc n) h =
+    passed-more p n
+    ∙ ap (λ l. l ++ cond (p n) (n ∷ []) []) (passed-same p q n (λ k lt. h k (omega (arith, lt))))
+    ∙ ap (λ b. filter q (range_with_len 0 n) ++ cond b (n ∷ []) []) (h n (omega arith))
+    ∙ sym (passed-more q n)
+
+get-front : {X : Type 0} (front xs : List X) (x d : X) → get_or (front ++ x ∷ xs) (length front) d ≡ x
+get-front [] xs x d = refl
+get-front (y ∷ front) xs x d = get-front front xs x d
+
+by-place : {X : Type 0} (p : X → Bool) (d : X) (all front xs : List X) (n : ℕ) → all ≡ front ++ xs → n ≡ length front
+    → filter p xs ≡ map (λ k. get_or all k d) (filter (λ k. p (get_or all k d)) (range_with_len n (length xs)))
+by-place p d all front [] n e f = refl
+by-place {X} p d all front (x ∷ xs) n e f =
+    let here : get_or all n d ≡ x = ap (λ (l : List X). get_or l n d) e ∙ ap (λ k. get_or (front ++ x ∷ xs) k d) f ∙ get-front front xs x d in
+    let next : all ≡ (front ++ x ∷ []) ++ xs = e ∙ sym (append_assoc front (x ∷ []) xs) in
+    by (p x) here (by-place p d all (front ++ x ∷ []) xs (n + 1) next (omega (arith, f, length_push front x)))
+  where
+    by : (b : Bool) → get_or all n d ≡ x
+        → filter p xs ≡ map (λ k. get_or all k d) (filter (λ k. p (get_or all k d)) (range_with_len (n + 1) (length xs)))
+        → filter p (x ∷ xs) ≡ map (λ k. get_or all k d) (filter (λ k. p (get_or all k d)) (n ∷ range_with_len (n + 1) (length xs)))
+    by b here rest = rw here (either (p x) here rest)
+      where
+        either : (b : Bool) → get_or all n d ≡ x
+            → filter p xs ≡ map (λ k. get_or all k d) (filter (λ k. p (get_or all k d)) (range_with_len (n + 1) (length xs)))
+            → cond b (x ∷ filter p xs) (filter p xs)
+            ≡ map (λ k. get_or all k d) (cond b (n ∷ filter (λ k. p (get_or all k d)) (range_with_len (n + 1) (length xs))) (filter (λ k. p (get_or all k d)) (range_with_len (n + 1) (length xs))))
+        either true here rest = (λ i. sym here i ∷ rest i)
+        either false here rest = rest
+
+-- what passes of a list, by the places at which it stands
+pub filter-by-place : {X : Type 0} (p : X → Bool) (d : X) (xs : List X) → filter p xs ≡ map (λ k. get_or xs k d) (filter (λ k. p (get_or xs k d)) (range_with_len 0 (length xs)))
+filter-by-place p d xs = by-place p d xs [] xs 0 refl refl
 
 -- what stands among the numbers below n that pass
 pub any-passed : (test : ℕ → Bool) (n k : ℕ) → list_any (λ m. m == k) (filter test (range_with_len 0 n)) ≡ (ltb k n && test k)

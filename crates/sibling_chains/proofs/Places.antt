@@ -241,3 +241,22 @@ no-good s b rows none = by (standing_at s.0 b rows) (sym (standing-good s b rows
     by : (o : Option ℕ) → option_map (λ n. (get_or rows n no_row).second.0) o ≡ None → o ≡ None
     by None e = refl
     by (Some n) e = cc
+
+pub get-removed-this : (n : ℕ) (rows : List RelationRow) → n < length rows → get_or (removed_at n rows) n no_row ≡ removed (get_or rows n no_row)
+get-removed-this n [] h = absurd (omega (arith, h))
+get-removed-this zero (row ∷ rows) h = refl
+get-removed-this (suc n) (row ∷ rows) h = get-removed-this n rows (omega (arith, h))
+
+pub get-removed-other : (n k : ℕ) (rows : List RelationRow) → (n ≡ k → ⊥) → get_or (removed_at n rows) k no_row ≡ get_or rows k no_row
+get-removed-other n k [] h = refl
+get-removed-other zero zero (row ∷ rows) h = absurd (h refl)
+get-removed-other zero (suc k) (row ∷ rows) h = refl
+get-removed-other (suc n) zero (row ∷ rows) h = refl
+get-removed-other (suc n) (suc k) (row ∷ rows) h = get-removed-other n k rows (λ e. h (ap suc e))
+
+pub first-removed : (n k : ℕ) (rows : List RelationRow) → (get_or (removed_at n rows) k no_row).first.0 ≡ (get_or rows k no_row).first.0
+first-removed n k [] = refl
+first-removed zero zero (row ∷ rows) = refl
+first-removed zero (suc k) (row ∷ rows) = refl
+first-removed (suc n) zero (row ∷ rows) = refl
+first-removed (suc n) (suc k) (row ∷ rows) = first-removed n k rows

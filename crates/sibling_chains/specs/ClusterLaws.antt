@@ -172,6 +172,12 @@ map-by : (L : ℕ → ℕ) (x : ℕ) (rows : List RelationRow) → AllByRecursio
 map-by L x [] a = tt
 map-by L x (row ∷ rows) a = (ap (λ l. l == L x) a.0, map-by L x rows a.1)
 
+-- the cluster of a tag over rows and other pairs is closed under the rows
+pub rows-closed : (rows : List RelationRow) (later : List Pair) (x : ℕ) → IsClosed (in_cluster (map pair_of rows ++ later) x) rows
+rows-closed rows later x =
+    let pairs : List Pair = map pair_of rows ++ later in
+    All-from_recursion (λ row. in_cluster pairs x row.first.0 ≡ in_cluster pairs x row.second.0) rows (rows-by (labels pairs) x rows later (labels-both pairs (λ t. t))).0
+
 pub clusters-closed : (siblings parents : List RelationRow) (x : ℕ)
     → IsClosed (in_cluster (map pair_of siblings ++ map pair_of parents) x) siblings
     × IsClosed (in_cluster (map pair_of siblings ++ map pair_of parents) x) parents

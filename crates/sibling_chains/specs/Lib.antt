@@ -1,4 +1,5 @@
 pub mod ClusterLaws
+pub mod Clustered
 pub mod Clusters
 pub mod EndLaws
 pub mod Ends

@@ -1,4 +1,4 @@
-ghost use Rattle.std.specs.Prelude.{◌≡◌, ◌==◌, ℕ, true, length, map, All, IfOk};
+ghost use Rattle.std.specs.Prelude.{◌≡◌, ◌==◌, ℕ, [], ◌∷◌, true, length, map, All, IfOk};
 ghost use Rattle.std.specs.List.{list_any};
 ghost use Rattle.sibling_chains.specs.Ends.{end_beside, ends, ends_after, led_on};
 ghost use Rattle.sibling_chains.specs.Recorded.{ideal, pairs_of};
@@ -52,6 +52,19 @@ fn meet(tags: &[u32], chain_ends: &mut Vec<u32>, bad: u32, good: u32)
     }
 }
 
+// Meets the pair of a row, where it stands and is of the service.
+fn meet_row(tags: &[u32], chain_ends: &mut Vec<u32>, row: RelationRow, service: ServiceNo)
+    requires len { length chain_ends.old.items ≡ length tags.now }
+    requires there { list_any (λ t. t == row.first.0) tags.now ≡ true }
+    ensures len { length chain_ends.new.items ≡ length tags.now }
+    ensures met { end_beside tags.now chain_ends.new.items
+        ≡ ends_after (pairs_of (row ∷ []) service) (end_beside tags.now chain_ends.old.items) }
+{
+    if row.standing && row.service.0 == service.0 {
+        meet(tags, chain_ends, row.first.0, row.second.0);
+    }
+}
+
 // Meets the standing pairs of a service among the rows of a cluster.
 fn meet_all(tags: &[u32], chain_ends: &mut Vec<u32>, rows: &[RelationRow], service: ServiceNo)
     requires len { length chain_ends.old.items ≡ length tags.now }
@@ -61,9 +74,7 @@ fn meet_all(tags: &[u32], chain_ends: &mut Vec<u32>, rows: &[RelationRow], servi
         ≡ ends_after (pairs_of rows.now service) (end_beside tags.now chain_ends.old.items) }
 {
     for row in rows {
-        if row.standing && row.service.0 == service.0 {
-            meet(tags, chain_ends, row.first.0, row.second.0);
-        }
+        meet_row(tags, chain_ends, *row, service);
     }
 }
 

@@ -2,6 +2,8 @@
 #![tactic(auto)]
 
 mod chain_ends;
+mod cluster;
+mod clusters;
 mod fold;
 mod grouped;
 mod pair_rows;
