@@ -5,6 +5,8 @@ pub mod EndLaws
 pub mod Ends
 pub mod Following
 pub mod Grouping
+pub mod Known
 pub mod LabelLaws
 pub mod PairTable
+pub mod Planning
 pub mod Recorded

@@ -1,10 +1,12 @@
-ghost use Rattle.std.specs.Prelude.{◌≡◌, ◌==◌, ℕ, [], ◌∷◌, true, length, map, All, IfOk};
+ghost use Rattle.std.specs.Prelude.{◌≡◌, ◌==◌, ◌<◌, ◌≤◌, ℕ, [], ◌∷◌, true, if◌then◌else◌, length, map, All, IfOk, OnOk, slice_index_or};
 ghost use Rattle.std.specs.List.{list_any};
-ghost use Rattle.sibling_chains.specs.Ends.{end_beside, ends, ends_after, led_on};
+ghost use Rattle.sibling_chains.specs.Ends.{at, end_beside, ends, ends_after, led_on};
+ghost use Rattle.sibling_chains.specs.Known.{AreEndsFor, are_long};
 ghost use Rattle.sibling_chains.specs.Recorded.{ideal, pairs_of};
 
+use crate::chain_ends::ChainEnds;
 use crate::relation_row::RelationRow;
-use media_types::{NoMemory, ServiceNo};
+use media_types::{Listed, NoMemory, ServiceNo};
 use std::alloc::Global;
 use tag_types::ServiceList;
 
@@ -95,4 +97,51 @@ pub fn fold_cluster(
         meet_all(tags, &mut chain_ends, rows, *service);
     }
     Ok(chain_ends)
+}
+
+/// The same for each service.
+pub fn fold_all(
+    alloc: Global,
+    tags: &[u32],
+    rows: &[RelationRow],
+    orders: &[ServiceList],
+) -> Result<Vec<Listed<u32>>, NoMemory>
+    requires { All (λ row. list_any (λ t. t == row.first.0) tags.now ≡ true) rows.now }
+    ensures { IfOk result (λ v. AreEndsFor tags.now rows.now orders.now v.items (length orders.now)) }
+{
+    let mut ends = Vec::new(alloc);
+    for order in orders {
+        let list = fold_cluster(alloc, tags, rows, order)?;
+        ends.push(Listed::from_rows(list))?;
+    }
+    Ok(ends)
+}
+
+/// Makes each list of ends so long at least. It changes no end.
+pub fn grow_all(ends: &mut Vec<ChainEnds>, tags: u32) -> Result<(), NoMemory>
+    ensures len { length ends.new.items ≡ length ends.old.items }
+    ensures same { (s t : ℕ) → at (slice_index_or ends.new.items s []) t ≡ at (slice_index_or ends.old.items s []) t }
+    ensures ok { OnOk result (are_long tags ends.new.items ≡ true) }
+{
+    for service in 0..ends.len() {
+        ends[service].grow(tags)?;
+    }
+    Ok(())
+}
+
+/// Puts the ends of some tags in place, for each service.
+pub fn put_all_ends(ends: &mut Vec<ChainEnds>, tags: &[u32], lists: &[Listed<u32>])
+    requires count { length lists.now ≡ length ends.old.items }
+    requires known { (s : ℕ) → s < length ends.old.items
+        → All (λ t. t < length (slice_index_or ends.old.items s [])) tags.now }
+    requires long { (s : ℕ) → s < length ends.old.items
+        → length (slice_index_or lists.now s []) ≡ length tags.now }
+    ensures len { length ends.new.items ≡ length ends.old.items }
+    ensures put { (s t : ℕ) → s < length ends.old.items → at (slice_index_or ends.new.items s []) t
+        ≡ (if list_any (λ x. x == t) tags.now then end_beside tags.now (slice_index_or lists.now s []) t
+        else at (slice_index_or ends.old.items s []) t) }
+{
+    for service in 0..ends.len() {
+        ends[service].put(tags, lists[service].as_slice());
+    }
 }

@@ -8,5 +8,7 @@ mod fold;
 mod grouped;
 mod pair_rows;
 mod relation_row;
+mod sibling_plan;
 
 pub use relation_row::RelationRow;
+pub use sibling_plan::SiblingPlan;
