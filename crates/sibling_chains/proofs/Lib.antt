@@ -4,5 +4,6 @@ pub mod Gathered
 pub mod GroupLists
 pub mod Joining
 pub mod Lists
+pub mod Longs
 pub mod Places
 pub mod Puts

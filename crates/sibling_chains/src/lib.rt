@@ -9,6 +9,8 @@ mod grouped;
 mod pair_rows;
 mod relation_row;
 mod sibling_plan;
+mod siblings;
 
 pub use relation_row::RelationRow;
 pub use sibling_plan::SiblingPlan;
+pub use siblings::Siblings;
