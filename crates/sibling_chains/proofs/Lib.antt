@@ -5,5 +5,7 @@ pub mod GroupLists
 pub mod Joining
 pub mod Lists
 pub mod Longs
+pub mod Nexts
 pub mod Places
 pub mod Puts
+pub mod Refolding

@@ -260,3 +260,18 @@ first-removed zero zero (row ∷ rows) = refl
 first-removed zero (suc k) (row ∷ rows) = refl
 first-removed (suc n) zero (row ∷ rows) = refl
 first-removed (suc n) (suc k) (row ∷ rows) = first-removed n k rows
+
+-- the standing row has this first tag
+pub standing-first : (s b : ℕ) (rows : List RelationRow) (n : ℕ) → standing_at s b rows ≡ Some n → (get_or rows n no_row).first.0 ≡ b
+standing-first s b [] n e = cc
+standing-first s b (row ∷ rows) n e = by (stands_for s b row) (standing_at s b rows) refl refl (λ m. standing-first s b rows m) e
+  where
+    by : (here : Bool) (o : Option ℕ) → stands_for s b row ≡ here → standing_at s b rows ≡ o → ((m : ℕ) → standing_at s b rows ≡ Some m → (get_or rows m no_row).first.0 ≡ b)
+        → cond here (Some 0) (option_map suc o) ≡ Some n → (get_or (row ∷ rows) n no_row).first.0 ≡ b
+    by true o eh eo rest e =
+        let first : 0 ≡ n = cc in
+        subst (λ m. (get_or (row ∷ rows) m no_row).first.0 ≡ b) first (eqb-true row.first.0 b (and_parts (row.standing && row.service.0 == s) (row.first.0 == b) eh).1)
+    by false None eh eo rest e = cc
+    by false (Some m) eh eo rest e =
+        let next : suc m ≡ n = cc in
+        subst (λ k. (get_or (row ∷ rows) k no_row).first.0 ≡ b) next (rest m eo)

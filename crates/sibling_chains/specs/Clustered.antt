@@ -1,6 +1,6 @@
 -- The rows and ties of tags, with the clusters into which the tags fall.
 use Rattle.std.specs.Prelude.{◌≡◌, ◌<◌, ◌≤◌, ◌==◌, ◌&&◌, ℕ, Bool, true, min, nat_lt, List, map, ◌++◌, length, filter, All, Option, Some, None, find, slice_index_or}
-use Rattle.std.specs.List.{range_with_len}
+use Rattle.std.specs.List.{list_any, range_with_len}
 use Rattle.media_types.specs.declared.numbers.TagNo.{TagNo}
 use Rattle.tag_types.specs.declared.limits.TheConstants.{MAX_TAGS}
 use Rattle.sibling_chains.specs.declared.cluster.Cluster.{Cluster}
@@ -38,6 +38,7 @@ pub record IsClusterOf (v : Clustered) (a b : ℕ) (it : Cluster) : Type 0 where
   pub tags : it.tags.items ≡ filter (is_of_two v.rows v.ties a b) (range_with_len 0 v.tags)
   pub rows : it.rows.items
       ≡ filter (λ n. is_of_two v.rows v.ties a b (slice_index_or v.rows n no_row).first.0) (range_with_len 0 (length v.rows))
+  pub whole : (t : ℕ) → list_any (λ x. x == t) it.tags.items ≡ is_of_two v.rows v.ties a b t
 
 -- the rows, once the one of a number is removed, where there is a number
 abbrev pub rows_but : Option ℕ → List RelationRow → List RelationRow

@@ -164,6 +164,7 @@ impl Clusters {
     pub fn next_tag<L: Ledger>(&self, label: u32, from: u32, steps: &mut Steps<L>) -> Option<u32>
         ensures next { IsNext self.now.tags (λ t. label_of self.now.rows self.now.ties t == label) from
             result }
+        ensures few { self.now.tags ≤ MAX_TAGS }
         ensures steps { steps.new ≡ steps.old + 1 }
     {
         let _pairs = &self.pairs;

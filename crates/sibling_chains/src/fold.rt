@@ -1,4 +1,4 @@
-ghost use Rattle.std.specs.Prelude.{◌≡◌, ◌==◌, ◌<◌, ◌≤◌, ℕ, [], ◌∷◌, true, if◌then◌else◌, length, map, All, IfOk, OnOk, slice_index_or};
+ghost use Rattle.std.specs.Prelude.{◌≡◌, ◌==◌, ◌<◌, ◌≤◌, ℕ, [], ◌∷◌, true, if◌then◌else◌, length, map, All, IfOk, OnOk, Some, None, slice_index_or, vec_capacity};
 ghost use Rattle.std.specs.List.{list_any};
 ghost use Rattle.sibling_chains.specs.Ends.{at, end_beside, ends, ends_after, led_on};
 ghost use Rattle.sibling_chains.specs.Known.{AreEndsFor, are_long};
@@ -24,6 +24,19 @@ fn lead_on(chain_ends: &mut Vec<u32>, bad: u32, to: u32)
     for end in chain_ends.iter_mut() {
         *end = end_led_on(*end, bad, to);
     }
+}
+
+/// The end of a tag of a cluster, where it is one of its tags. It looks at each tag.
+pub fn seek(tags: &[u32], chain_ends: &[u32], tag: u32) -> Option<u32>
+    requires { length chain_ends.now ≡ length tags.now }
+    ensures { result ≡ (if list_any (λ x. x == tag) tags.now then Some (end_beside tags.now chain_ends.now tag) else None) }
+{
+    for at in 0..tags.len() {
+        if tags[at] == tag {
+            return Some(chain_ends[at]);
+        }
+    }
+    None
 }
 
 // The end of a tag of a cluster; a tag of none is its own.
@@ -120,6 +133,7 @@ pub fn fold_all(
 /// Makes each list of ends so long at least. It changes no end.
 pub fn grow_all(ends: &mut Vec<ChainEnds>, tags: u32) -> Result<(), NoMemory>
     ensures len { length ends.new.items ≡ length ends.old.items }
+    ensures capacity { vec_capacity ends.new ≡ vec_capacity ends.old }
     ensures same { (s t : ℕ) → at (slice_index_or ends.new.items s []) t ≡ at (slice_index_or ends.old.items s []) t }
     ensures ok { OnOk result (are_long tags ends.new.items ≡ true) }
 {
@@ -137,6 +151,7 @@ pub fn put_all_ends(ends: &mut Vec<ChainEnds>, tags: &[u32], lists: &[Listed<u32
     requires long { (s : ℕ) → s < length ends.old.items
         → length (slice_index_or lists.now s []) ≡ length tags.now }
     ensures len { length ends.new.items ≡ length ends.old.items }
+    ensures capacity { vec_capacity ends.new ≡ vec_capacity ends.old }
     ensures put { (s t : ℕ) → s < length ends.old.items → at (slice_index_or ends.new.items s []) t
         ≡ (if list_any (λ x. x == t) tags.now then end_beside tags.now (slice_index_or lists.now s []) t
         else at (slice_index_or ends.old.items s []) t) }

@@ -1,6 +1,7 @@
 //! Siblings of tags: which tag stands for another, for each service, and the clusters into which tags fall.
 #![tactic(auto)]
 
+mod carrying;
 mod chain_ends;
 mod cluster;
 mod clusters;
