@@ -4,7 +4,7 @@ use Rattle.std.proofs.Math.Path.{fun_ext}
 use Rattle.std.specs.List.{AllByRecursion, list_any, range_with_len}
 use Rattle.std.specs.Option.{ForSome, option_map}
 use Rattle.std.proofs.lemmas.Bool.{cases_Bool, cases_eq, cases_lt, ne_eqb, eq-eqb, eqb-true, false≢true}
-use Rattle.std.proofs.lemmas.List.{get_or_append_left, get_or_past, length_push}
+use Rattle.std.proofs.lemmas.List.{append_assoc, get_or_append_left, get_or_past, length_push, map-append}
 use Rattle.std.proofs.lemmas.List.Elements.{All-push, All-weaker, recursion_from_All, filter-append, filter_agree, filter_passes}
 use Rattle.media_types.specs.declared.numbers.ServiceNo.{ServiceNo}
 use Rattle.media_types.specs.declared.numbers.TagNo.{TagNo}
@@ -158,3 +158,50 @@ folded-service rows orders ends h = record {
     get-last : {X : Type 0} (xs : List X) (x d : X) → get_or (xs ++ x ∷ []) (length xs) d ≡ x
     get-last [] x d = refl
     get-last (y ∷ xs) x d = get-last xs x d
+
+-- ---- a pair that is recorded, and one that is removed
+pub refolded-at : (rows new-rows : List RelationRow) (orders : List (List ServiceNo)) (lists : List (List ℕ)) (tags : List ℕ) (S : ℕ → Bool)
+    → AreEndsFor tags (rows_within S new-rows) orders lists (length orders)
+    → ((t : ℕ) → list_any (λ x. x == t) tags ≡ S t)
+    → ((order : List ServiceNo) (t : ℕ) → ideal order new-rows t ≡ cond (S t) (ideal order (rows_within S new-rows) t) (ideal order rows t))
+    → (s t : ℕ) → s < length orders
+    → cond (list_any (λ x. x == t) tags) (end_beside tags (get_or lists s []) t) (ideal (get_or orders s []) rows t) ≡ ideal (get_or orders s []) new-rows t
+refolded-at rows new-rows orders lists tags S f whole changes s t less =
+    ap (λ c. cond c (end_beside tags (get_or lists s []) t) (ideal (get_or orders s []) rows t)) (whole t)
+    ∙ ap (λ x. cond (S t) x (ideal (get_or orders s []) rows t)) (f.ideal s t less)
+    ∙ sym (changes (get_or orders s []) t)
+
+pub changes-add : (rows : List RelationRow) (ties : List Pair) (row : RelationRow) (order : List ServiceNo) (t : ℕ)
+    → ideal order (rows ++ row ∷ []) t
+    ≡ cond (is_of_two rows ties row.first.0 row.second.0 t) (ideal order (rows_within (is_of_two rows ties row.first.0 row.second.0) (rows ++ row ∷ [])) t) (ideal order rows t)
+changes-add rows ties row order t =
+    let pairs : map pair_of (rows ++ row ∷ []) ++ ties ≡ map pair_of rows ++ pair_of row ∷ ties =
+    ap (λ (l : List Pair). l ++ ties) (map-append pair_of rows (row ∷ [])) ∙ append_assoc (map pair_of rows) (pair_of row ∷ []) ties in
+    row-added (is_of_two rows ties row.first.0 row.second.0) order rows row
+    (closed-tied rows (rows ++ row ∷ []) ties row.first.0 row.second.0 (map pair_of rows) ties refl pairs)
+    (of-first rows ties row.first.0 row.second.0) t
+
+pub changes-removal : (rows : List RelationRow) (ties : List Pair) (service : ServiceNo) (b : ℕ) → IsSome (good_of (pairs_of rows service) b)
+    → (order : List ServiceNo) (t : ℕ)
+    → ideal order (removed_at (standing_place service.0 b rows) rows) t
+    ≡ cond (is_of_two rows ties b b t) (ideal order (rows_within (is_of_two rows ties b b) (removed_at (standing_place service.0 b rows) rows)) t) (ideal order rows t)
+changes-removal rows ties service b some order t =
+    by (standing_at service.0 b rows) refl (subst IsSome (standing-good service b rows) some)
+  where
+    by : (o : Option ℕ) → standing_at service.0 b rows ≡ o → IsSome (option_map (λ n. (get_or rows n no_row).second.0) o)
+        → ideal order (removed_at (standing_place service.0 b rows) rows) t
+        ≡ cond (is_of_two rows ties b b t) (ideal order (rows_within (is_of_two rows ties b b) (removed_at (standing_place service.0 b rows) rows)) t) (ideal order rows t)
+    by None e there = absurd (false≢true there)
+    by (Some n) e there =
+        let within = standing-within service.0 b rows n e in
+        let first : is_of_two rows ties b b (get_or rows (standing_place service.0 b rows) no_row).first.0 ≡ true =
+        ap (λ k. is_of_two rows ties b b (get_or rows k no_row).first.0) within.1 ∙ ap (is_of_two rows ties b b) (standing-first service.0 b rows n e) ∙ of-first rows ties b b in
+        row-removed (is_of_two rows ties b b) order (standing_place service.0 b rows) rows (closed-one rows ties b) first (omega (arith, within.0, within.1)) t
+
+-- ---- the lists of ends are long enough where there is room
+pub room-long : (long : Bool) (n : ℕ) → 1 ≤ cond long n 0 → long ≡ true
+room-long true n h = refl
+room-long false n h = absurd (omega (arith, h))
+
+pub known-tags : (n : ℕ) (tags ends : List ℕ) → n ≤ length ends → All (λ t. t < n) tags → All (λ t. t < length ends) tags
+known-tags n tags ends le h = All-weaker (λ t. t < n) (λ t. t < length ends) (λ t lt. omega (arith, lt, le)) tags h
