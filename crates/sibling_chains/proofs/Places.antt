@@ -216,9 +216,9 @@ pub placed-removed : (rows : List RelationRow) (places new : List (Pair × ℕ))
     → ArePlaced (removed_at (standing_place s b rows) rows) new
 placed-removed rows places new s b h this others = record {
   placed = λ t c. elim (same-or-apart t c s b) [
-      | inl same ↦ rw (same.0, same.1) (this ∙ sym (removed-this s b rows (h.single s b)))
-      | inr apart ↦ others (t, c) apart ∙ h.placed t c ∙ sym (removed-other t c s b rows apart)
-    ];
+    | inl same ↦ rw (same.0, same.1) (this ∙ sym (removed-this s b rows (h.single s b)))
+    | inr apart ↦ others (t, c) apart ∙ h.placed t c ∙ sym (removed-other t c s b rows apart)
+  ];
   single = λ t c. omega (arith, count-removed (stands_for t c) (λ row. refl) (standing_place s b rows) rows, h.single t c);
   few = omega (arith, length-removed (standing_place s b rows) rows, h.few);
 }

@@ -1,10 +1,10 @@
 -- Clusters that are folded anew, and what it makes of the ends of all services.
-use Rattle.std.proofs.Common.{◌≡◌, ◌∙◌, ◌⊎◌, ℕ, zero, suc, ◌+◌, ◌<◌, ◌≤◌, ◌==◌, ◌||◌, ◌&&◌, Bool, true, false, cond, List, [], ◌∷◌, ◌++◌, length, map, filter, get_or, All, Option, Some, None, IsSome, refl, sym, ap, subst, inl, inr, arith}
+use Rattle.std.proofs.Common.{◌≡◌, ◌∙◌, ◌⊎◌, ℕ, zero, suc, ◌+◌, ◌<◌, ◌≤◌, ◌==◌, ◌||◌, ◌&&◌, Bool, true, false, cond, List, [], ◌∷◌, ◌++◌, length, map, filter, get_or, set, ltb, All, Option, Some, None, IsSome, refl, sym, ap, subst, inl, inr, arith}
 use Rattle.std.proofs.Math.Path.{fun_ext}
 use Rattle.std.specs.List.{AllByRecursion, list_any, range_with_len}
 use Rattle.std.specs.Option.{ForSome, option_map}
-use Rattle.std.proofs.lemmas.Bool.{cases_Bool, cases_eq, cases_lt, ne_eqb, eq-eqb, eqb-true, false≢true}
-use Rattle.std.proofs.lemmas.List.{append_assoc, get_or_append_left, get_or_past, length_push, map-append}
+use Rattle.std.proofs.lemmas.Bool.{cases_Bool, cases_eq, cases_lt, ne_eqb, eq-eqb, eqb-true, false≢true, lt-ltb}
+use Rattle.std.proofs.lemmas.List.{append_assoc, get_or_append_left, get_or_past, get_or-set_same, get_or-set_other, length_push, map-append}
 use Rattle.std.proofs.lemmas.List.Elements.{All-push, All-weaker, recursion_from_All, filter-append, filter_agree, filter_passes}
 use Rattle.media_types.specs.declared.numbers.ServiceNo.{ServiceNo}
 use Rattle.media_types.specs.declared.numbers.TagNo.{TagNo}
@@ -16,6 +16,7 @@ use Rattle.sibling_chains.specs.Clusters.{IsClosed, in_cluster, rows_within}
 use Rattle.sibling_chains.specs.Ends.{at, end_beside}
 use Rattle.sibling_chains.specs.Following.{Pair, good_of, ideal_by}
 use Rattle.sibling_chains.specs.Known.{AreEndsFor, AreFolded, rows_with}
+use Rattle.sibling_chains.specs.LabelLaws.{labels-least}
 use Rattle.sibling_chains.specs.Recorded.{ideal, no_row, pair_of, pairs_in, pairs_of, removed_at, standing_at, standing_place}
 use Rattle.sibling_chains.proofs.Gathered.{rows-counted}
 use Rattle.sibling_chains.proofs.GroupLists.{filter-by-place}
@@ -83,16 +84,16 @@ pub refolded : (rows new-rows : List RelationRow) (orders : List (List ServiceNo
 refolded rows new-rows orders ends lists new tags S h f whole len put changes services = record {
   one_each = len ∙ h.one_each;
   ideal = λ s t. elim (cases_lt s (length orders)) [
-      | inl less ↦
-          put s t (omega (arith, less, h.one_each))
-          ∙ ap (λ c. cond c (end_beside tags (get_or lists s []) t) (at (get_or ends s []) t)) (whole t)
-          ∙ ap (λ x. cond (S t) x (at (get_or ends s []) t)) (f.ideal s t less)
-          ∙ ap (cond (S t) (ideal (get_or orders s []) (rows_within S new-rows) t)) (h.ideal s t)
-          ∙ sym (changes (get_or orders s []) t)
-      | inr more ↦
-          ap (λ (l : List ℕ). at l t) (get_or_past new s [] (omega (arith, len, h.one_each, more)))
-          ∙ sym (ap (λ o. ideal o new-rows t) (get_or_past orders s [] more) ∙ ideal-none new-rows t)
-    ];
+    | inl less ↦
+        put s t (omega (arith, less, h.one_each))
+        ∙ ap (λ c. cond c (end_beside tags (get_or lists s []) t) (at (get_or ends s []) t)) (whole t)
+        ∙ ap (λ x. cond (S t) x (at (get_or ends s []) t)) (f.ideal s t less)
+        ∙ ap (cond (S t) (ideal (get_or orders s []) (rows_within S new-rows) t)) (h.ideal s t)
+        ∙ sym (changes (get_or orders s []) t)
+    | inr more ↦
+        ap (λ (l : List ℕ). at l t) (get_or_past new s [] (omega (arith, len, h.one_each, more)))
+        ∙ sym (ap (λ o. ideal o new-rows t) (get_or_past orders s [] more) ∙ ideal-none new-rows t)
+  ];
   services = services;
 }
 
@@ -137,20 +138,20 @@ pub folded-service : (rows : List RelationRow) (orders : List (List ServiceNo)) 
 folded-service rows orders ends h = record {
   one_each = omega (arith, length_push ends [], h.one_each, length_push orders (alone-of (length orders)));
   ideal = λ s t. elim (cases_lt s (length orders)) [
-      | inl less ↦
-          ap (λ (l : List ℕ). at l t) (get_or_append_left ends ([] ∷ []) [] s (omega (arith, less, h.one_each)))
-          ∙ h.ideal s t
-          ∙ ap (λ o. ideal o rows t) (sym (get_or_append_left orders ((alone-of (length orders)) ∷ []) [] s less))
-      | inr more ↦ elim (cases_eq s (length orders)) [
-        | inl same ↦
-            ap (λ (l : List ℕ). at l t) (ap (λ n. get_or (ends ++ [] ∷ []) n []) (same ∙ sym h.one_each) ∙ get-last ends [] [])
-            ∙ sym (ideal-own (length orders) (record { 0 = length orders }) rows t (omega arith) h.services)
-            ∙ ap (λ o. ideal o rows t) (sym (ap (λ n. get_or (orders ++ (alone-of (length orders)) ∷ []) n []) same ∙ get-last orders (alone-of (length orders)) []))
-        | inr differ ↦
-            ap (λ (l : List ℕ). at l t) (get_or_past (ends ++ [] ∷ []) s [] (omega (arith, length_push ends [], h.one_each, more, differ)))
-            ∙ sym (ap (λ o. ideal o rows t) (get_or_past (orders ++ (alone-of (length orders)) ∷ []) s [] (omega (arith, length_push orders (alone-of (length orders)), more, differ))) ∙ ideal-none rows t)
-      ]
-    ];
+    | inl less ↦
+        ap (λ (l : List ℕ). at l t) (get_or_append_left ends ([] ∷ []) [] s (omega (arith, less, h.one_each)))
+        ∙ h.ideal s t
+        ∙ ap (λ o. ideal o rows t) (sym (get_or_append_left orders ((alone-of (length orders)) ∷ []) [] s less))
+    | inr more ↦ elim (cases_eq s (length orders)) [
+      | inl same ↦
+          ap (λ (l : List ℕ). at l t) (ap (λ n. get_or (ends ++ [] ∷ []) n []) (same ∙ sym h.one_each) ∙ get-last ends [] [])
+          ∙ sym (ideal-own (length orders) (record { 0 = length orders }) rows t (omega arith) h.services)
+          ∙ ap (λ o. ideal o rows t) (sym (ap (λ n. get_or (orders ++ (alone-of (length orders)) ∷ []) n []) same ∙ get-last orders (alone-of (length orders)) []))
+      | inr differ ↦
+          ap (λ (l : List ℕ). at l t) (get_or_past (ends ++ [] ∷ []) s [] (omega (arith, length_push ends [], h.one_each, more, differ)))
+          ∙ sym (ap (λ o. ideal o rows t) (get_or_past (orders ++ (alone-of (length orders)) ∷ []) s [] (omega (arith, length_push orders (alone-of (length orders)), more, differ))) ∙ ideal-none rows t)
+    ]
+  ];
   services = All-weaker (λ (row : RelationRow). row.service.0 < length orders) (λ (row : RelationRow). row.service.0 < length (orders ++ (alone-of (length orders)) ∷ []))
       (λ row lt. omega (arith, length_push orders (alone-of (length orders)), lt)) rows h.services;
 }
@@ -205,3 +206,60 @@ room-long false n h = absurd (omega (arith, h))
 
 pub known-tags : (n : ℕ) (tags ends : List ℕ) → n ≤ length ends → All (λ t. t < n) tags → All (λ t. t < length ends) tags
 known-tags n tags ends le h = All-weaker (λ t. t < n) (λ t. t < length ends) (λ t lt. omega (arith, lt, le)) tags h
+
+-- ---- another list for a service
+pub fold-label : (rows : List RelationRow) (ties : List Pair) (order : List ServiceNo) (label : ℕ) (tags list : List ℕ) (old t : ℕ)
+    → label_of rows ties label ≡ label → list_any (λ x. x == t) tags ≡ is_of_two rows ties label label t
+    → end_beside tags list t ≡ ideal order (rows_within (is_of_two rows ties label label) rows) t
+    → cond (list_any (λ x. x == t) tags) (end_beside tags list t) old ≡ cond (label_of rows ties t == label) (ideal order rows t) old
+fold-label rows ties order label tags list old t own whole folded =
+    ap (λ c. cond c (end_beside tags list t) old) whole
+    ∙ by (is_of_two rows ties label label t) refl
+    ∙ ap (λ c. cond c (ideal order rows t) old) test
+  where
+    once : (c : Bool) → (c || c) ≡ c
+    once true = refl
+    once false = refl
+
+    test : is_of_two rows ties label label t ≡ (label_of rows ties t == label)
+    test = once (label_of rows ties t == label_of rows ties label) ∙ ap (λ l. label_of rows ties t == l) own
+
+    by : (c : Bool) → is_of_two rows ties label label t ≡ c → cond c (end_beside tags list t) old ≡ cond c (ideal order rows t) old
+    by true e = folded ∙ (alone (is_of_two rows ties label label) order rows (closed-one rows ties label) t e).0
+    by false e = refl
+
+-- a number that is no label names no cluster
+pub no-label : (rows : List RelationRow) (ties : List Pair) (label t : ℕ) → (label_of rows ties label ≡ label → ⊥) → (label_of rows ties t == label) ≡ false
+no-label rows ties label t other = ne_eqb (label_of rows ties t) label
+    (λ same. other (ap (label_of rows ties) (sym same) ∙ (labels-least (all_pairs rows ties)).own t ∙ same))
+
+-- a tag of which no row speaks is its own ideal tag
+pub ideal-unknown : (rows : List RelationRow) (order : List ServiceNo) (n t : ℕ) → All (λ row. (row.first.0 < n) × (row.second.0 < n)) rows → n ≤ t → ideal order rows t ≡ t
+ideal-unknown rows order n t known le =
+    let only : ℕ → Bool = λ k. k == t in
+    let closed : IsClosed only rows =
+    All-weaker (λ (row : RelationRow). (row.first.0 < n) × (row.second.0 < n)) (λ (row : RelationRow). only row.first.0 ≡ only row.second.0)
+    (λ row both. ne_eqb row.first.0 t (λ e. omega (arith, e, both.0, le)) ∙ sym (ne_eqb row.second.0 t (λ e. omega (arith, e, both.1, le)))) rows known in
+    eqb-true (ideal order rows t) t (alone only order rows closed t (eq-eqb t t refl)).1
+
+pub all-ends : (rows : List RelationRow) (ties : List Pair) (order : List ServiceNo) (n end t e : ℕ) → All (λ row. (row.first.0 < n) × (row.second.0 < n)) rows → n ≤ end
+    → e ≡ cond (ltb (label_of rows ties t) end) (ideal order rows t) t → e ≡ ideal order rows t
+all-ends rows ties order n end t e known le is = elim (cases_lt t n) [
+  | inl less ↦ is ∙ ap (λ c. cond c (ideal order rows t) t) (lt-ltb (label_of rows ties t) end (omega (arith, (labels-least (all_pairs rows ties)).low t, less, le)))
+  | inr more ↦ is ∙ either (ltb (label_of rows ties t) end) (ideal-unknown rows order n t known more)
+]
+  where
+    either : (c : Bool) → ideal order rows t ≡ t → cond c (ideal order rows t) t ≡ ideal order rows t
+    either true same = refl
+    either false same = sym same
+
+pub ordered-at : (orders : List (List ServiceNo)) (order : List ServiceNo) (rows : List RelationRow) (service s t e : ℕ) → service < length orders → e ≡ ideal order rows t
+    → cond (s == service) e (ideal (get_or orders s []) rows t) ≡ ideal (get_or (set orders service order) s []) rows t
+ordered-at orders order rows service s t e less is = elim (cases_eq s service) [
+  | inl same ↦
+      rw (eq-eqb s service same)
+      (is ∙ ap (λ o. ideal o rows t) (sym (ap (λ k. get_or (set orders service order) k []) same ∙ get_or-set_same orders service order [] less)))
+  | inr differ ↦
+      rw (ne_eqb s service differ)
+      (ap (λ o. ideal o rows t) (sym (get_or-set_other orders service s order [] differ)))
+]

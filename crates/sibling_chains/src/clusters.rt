@@ -101,6 +101,7 @@ impl Clusters {
     pub fn tags(&self) -> u32
         ensures tags { result ≡ self.now.tags }
         ensures few { result ≤ MAX_TAGS }
+        ensures known { All (λ row. (row.first.0 < self.now.tags) × (row.second.0 < self.now.tags)) self.now.rows }
     {
         let _pairs = &self.pairs;
         self.tags.len()
@@ -198,12 +199,7 @@ impl Clusters {
     }
 
     // A row, which is read as removed where it is the one that goes.
-    fn row_but<L: Ledger>(
-        &self,
-        at: u32,
-        gone: Option<u32>,
-        steps: &mut Steps<L>,
-    ) -> RelationRow
+    fn row_but<L: Ledger>(&self, at: u32, gone: Option<u32>, steps: &mut Steps<L>) -> RelationRow
         requires { at < length self.now.rows }
         ensures row { result ≡ slice_index_or (rows_but gone self.now.rows) at no_row }
         ensures steps { steps.new ≡ steps.old + 1 }

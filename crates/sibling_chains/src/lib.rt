@@ -7,6 +7,7 @@ mod cluster;
 mod clusters;
 mod fold;
 mod grouped;
+mod ordering;
 mod pair_rows;
 mod relation_row;
 mod sibling_plan;

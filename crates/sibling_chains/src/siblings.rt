@@ -1,4 +1,4 @@
-ghost use Rattle.std.specs.Prelude.{◌≡◌, ◌==◌, ℕ, ◌+◌, ◌*◌, ◌<◌, ◌≤◌, [], ◌∷◌, ◌++◌, true, false, length, None, Some, IfOk, IsSome, OnOk, slice_get};
+ghost use Rattle.std.specs.Prelude.{◌≡◌, ◌==◌, ℕ, ◌+◌, ◌*◌, ◌<◌, ◌≤◌, [], ◌∷◌, ◌++◌, true, false, All, length, None, Some, IfOk, IsSome, OnOk, slice_get};
 ghost use Rattle.std.specs.Option.{ForSome, option_map};
 ghost use Rattle.tag_types.specs.declared.limits.TheConstants.{MAX_RELATIONS, MAX_SERVICES, MAX_TAGS};
 ghost use Rattle.sibling_chains.specs.Clustered.{rows_but};
@@ -123,6 +123,7 @@ impl Siblings {
     pub fn tags(&self) -> u32
         ensures tags { result ≡ self.now.tags }
         ensures few { result ≤ MAX_TAGS }
+        ensures known { All (λ row. (row.first.0 < self.now.tags) × (row.second.0 < self.now.tags)) self.now.rows }
     {
         self.clusters.tags()
     }
@@ -205,8 +206,9 @@ impl Siblings {
         ensures same { IsSame self.new self.old }
         ensures fits { IfOk result (λ plan. IsPlanFor plan self.new) }
         ensures after { IfOk result (λ plan. after plan self.new ≡ record self.new {
-            rows = self.old.rows
-            ++ (record { service = service; first = bad; second = good; standing = true }) ∷ [] }) }
+          rows = self.old.rows
+              ++ (record { service = service; first = bad; second = good; standing = true }) ∷ [];
+        }) }
         ensures tag_room { self.old.tag_room ≤ self.new.tag_room }
         ensures service_room { self.old.service_room ≤ self.new.service_room }
         ensures steps { steps.new ≤ steps.old + 5 * ((1 + length (rows_of_two self.old bad.0 good.0))
@@ -242,7 +244,8 @@ impl Siblings {
         ensures same { IsSame self.new self.old }
         ensures fits { IfOk result (λ plan. IsPlanFor plan self.new) }
         ensures after { IfOk result (λ plan. after plan self.new ≡ record self.new {
-            rows = removed_at (standing_place service.0 bad.0 self.old.rows) self.old.rows }) }
+          rows = removed_at (standing_place service.0 bad.0 self.old.rows) self.old.rows;
+        }) }
         ensures tag_room { self.old.tag_room ≤ self.new.tag_room }
         ensures service_room { self.old.service_room ≤ self.new.service_room }
         ensures steps { steps.new ≤ steps.old + 5 * ((1 + length (rows_of_two self.old bad.0 bad.0))
