@@ -1,4 +1,4 @@
-ghost use Rattle.std.specs.Prelude.{◌≡◌, ◌==◌, ℕ, ◌+◌, ◌*◌, ◌<◌, ◌≤◌, [], ◌∷◌, ◌++◌, true, length, map, filter, All, None, Some, IfOk, OnOk, slice_get, slice_index_or, vec_len};
+ghost use Rattle.std.specs.Prelude.{◌≡◌, ◌==◌, ℕ, ◌+◌, ◌*◌, ◌<◌, ◌≤◌, [], ◌∷◌, ◌++◌, true, min, length, map, filter, All, None, Some, IfOk, OnOk, slice_get, slice_index_or, vec_len};
 ghost use Rattle.std.specs.List.{range_with_len};
 ghost use Rattle.std.specs.Option.{option_map};
 ghost use Rattle.tag_types.specs.declared.limits.TheConstants.{MAX_RELATIONS, MAX_TAGS};
@@ -192,7 +192,7 @@ impl Clusters {
         let tags = self.tags.members(self.alloc, a, b, steps)?;
         let rows = self.rows.members(self.alloc, a, b, steps)?;
         Ok(Cluster {
-            label: a.min(b),
+            label: lesser_label(a, b),
             tags,
             rows,
         })
@@ -279,4 +279,10 @@ impl Clusters {
         self.rows.put_all(cluster.rows.as_slice(), cluster.label);
         self.ties.push((a.0, b.0));
     }
+}
+
+fn lesser_label(a: u32, b: u32) -> u32
+    ensures { result ≡ min a b }
+{
+    a.min(b)
 }

@@ -1,4 +1,4 @@
-ghost use Rattle.std.specs.Prelude.{◌≡◌, ◌==◌, ◌<◌, ◌≤◌, ℕ, [], ◌∷◌, true, if◌then◌else◌, length, map, All, IfOk, OnOk, Some, None, slice_index_or, vec_capacity};
+ghost use Rattle.std.specs.Prelude.{◌≡◌, ◌==◌, ◌&&◌, not, ◌<◌, ◌≤◌, ℕ, [], ◌∷◌, true, if◌then◌else◌, length, map, All, IfOk, OnOk, Some, None, slice_index_or, vec_capacity};
 ghost use Rattle.std.specs.List.{list_any};
 ghost use Rattle.sibling_chains.specs.Ends.{at, end_beside, ends, ends_after, led_on};
 ghost use Rattle.sibling_chains.specs.Known.{AreEndsFor, are_long};
@@ -52,6 +52,13 @@ fn end_in(tags: &[u32], chain_ends: &[u32], tag: u32) -> u32
     tag
 }
 
+// Whether a pair is taken: by the ends of its bad and of its good tag.
+fn is_taken(own: u32, to: u32, bad: u32) -> bool
+    ensures { result ≡ (own == bad && not (to == bad)) }
+{
+    own == bad && to != bad
+}
+
 // Meets one more pair of a cluster, and takes it unless it is passed over. It looks at each tag.
 fn meet(tags: &[u32], chain_ends: &mut Vec<u32>, bad: u32, good: u32)
     requires len { length chain_ends.old.items ≡ length tags.now }
@@ -62,7 +69,7 @@ fn meet(tags: &[u32], chain_ends: &mut Vec<u32>, bad: u32, good: u32)
 {
     let to = end_in(tags, chain_ends.as_slice(), good);
     let own = end_in(tags, chain_ends.as_slice(), bad);
-    if own == bad && to != bad {
+    if is_taken(own, to, bad) {
         lead_on(chain_ends, bad, to);
     }
 }

@@ -16,3 +16,6 @@ mod siblings;
 pub use relation_row::RelationRow;
 pub use sibling_plan::SiblingPlan;
 pub use siblings::Siblings;
+
+#[cfg(test)]
+mod tests;

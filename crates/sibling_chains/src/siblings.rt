@@ -119,6 +119,13 @@ impl Siblings {
         self.clusters.add_tag();
     }
 
+    /// How many services there are.
+    pub fn services(&self) -> usize
+        ensures { result ≡ length self.now.orders }
+    {
+        self.orders.len()
+    }
+
     /// How many tags there are.
     pub fn tags(&self) -> u32
         ensures tags { result ≡ self.now.tags }

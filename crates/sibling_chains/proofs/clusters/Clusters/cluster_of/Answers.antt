@@ -33,7 +33,7 @@ returns-clause-cluster g c =
     let known-a : c.args.a < length s.tags.labels = rw (← c.self.view_is) at c.requires.a_known in
     let known-b : c.args.b < length s.tags.labels = rw (← c.self.view_is) at c.requires.b_known in
     rw (← c.self.view_is) (record {
-      label = c.min.ensures ∙ ap (λ x. min x c.label-b.result) a ∙ ap (min (label_of s.pairs.rows s.ties.rows c.args.a)) b;
+      label = c.lesser_label.ensures ∙ ap (λ x. min x c.label-b.result) a ∙ ap (min (label_of s.pairs.rows s.ties.rows c.args.a)) b;
       tags = c.in_ok-tags.ensures.members ∙ gathered-tags s.pairs.rows s.ties.rows s.tags.labels s.rows.labels c.self.invariant c.args.a c.args.b _ _ a b;
       rows = c.in_ok-rows.ensures.members ∙ gathered-rows s.pairs.rows s.ties.rows s.tags.labels s.rows.labels c.self.invariant c.args.a c.args.b _ _ a b;
       whole = λ t.
