@@ -92,6 +92,7 @@ of-within S s (row ∷ rows) = by (stands_in s row) (S row.first.0) refl refl (o
     by false true eb ek e = rw eb e
     by false false eb ek e = e
 
+-- the pairs of a set among those of a service are those of its rows
 pub in-within : (S : ℕ → Bool) (order : List ServiceNo) (rows : List RelationRow) → within S (pairs_in order rows) ≡ pairs_in order (rows_within S rows)
 in-within S [] rows = refl
 in-within S (s ∷ order) rows =
@@ -114,10 +115,12 @@ of-closed S s (row ∷ rows) c = by (stands_in s row) (of-closed S s rows c.1)
     by true rest = (c.0, rest)
     by false rest = rest
 
+-- a set that is closed under rows is closed under the pairs of any services
 pub in-closed : (S : ℕ → Bool) (order : List ServiceNo) (rows : List RelationRow) → ClosedRows S rows → Closed S (pairs_in order rows)
 in-closed S [] rows c = tt
 in-closed S (s ∷ order) rows c = all-append (λ p. S p.0 ≡ S p.1) (pairs_of rows s) (pairs_in order rows) (of-closed S s rows c) (in-closed S order rows c)
 
+-- the ideal tags of a closed set are those that its own rows make, and lie in it
 pub alone : (S : ℕ → Bool) (order : List ServiceNo) (rows : List RelationRow) → IsClosed S rows → (t : ℕ)
     → S t ≡ true → (ideal order (rows_within S rows) t ≡ ideal order rows t) × (S (ideal order rows t) ≡ true)
 unfolding ideal
@@ -129,9 +132,11 @@ alone S order rows closed t s =
       ap S (ideal-ends pairs t) ∙ after-split S pairs (λ x. x) c (λ x. refl) t ∙ s,
     )
 
+-- the rest of a closed set is closed
 pub outside-closed : (S : ℕ → Bool) (rows : List RelationRow) → IsClosed S rows → IsClosed (outside S) rows
 outside-closed S rows c = λ k d hk. ap not (c k d hk)
 
+-- where two lists of rows differ in a closed set alone, the tags of the set have the ideal tags that its own rows make, and the others keep theirs
 pub others-stay : (S : ℕ → Bool) (order : List ServiceNo) (old new : List RelationRow) → IsClosed S old → IsClosed S new
     → rows_within (outside S) old ≡ rows_within (outside S) new → (t : ℕ)
     → ideal order new t ≡ cond (S t) (ideal order (rows_within S new) t) (ideal order old t)
@@ -152,13 +157,16 @@ joined-both p L = rw (eq-eqb (L p.0) (L p.0) refl, eq-eqb (L p.1) (L p.1) refl) 
     or-true true = refl
     or-true false = refl
 
+-- tags that have one label keep one
 pub joined-kept : (p : Pair) (L : ℕ → ℕ) (a b : ℕ) → L a ≡ L b → joined p L a ≡ joined p L b
 joined-kept p L a b e = ap (λ l. cond (l == L p.0 || l == L p.1) (min (L p.0) (L p.1)) l) e
 
+-- tags that have one label have one after more pairs
 pub labels-kept : (pairs : List Pair) (L : ℕ → ℕ) (a b : ℕ) → L a ≡ L b → labels_after L pairs a ≡ labels_after L pairs b
 labels-kept [] L a b e = e
 labels-kept (p ∷ pairs) L a b e = labels-kept pairs (joined p L) a b (joined-kept p L a b e)
 
+-- the tags of each pair have one label
 pub labels-both : (pairs : List Pair) (L : ℕ → ℕ) → AllByRecursion (λ p. labels_after L pairs p.0 ≡ labels_after L pairs p.1) pairs
 labels-both [] L = tt
 labels-both (p ∷ pairs) L = (labels-kept pairs (joined p L) p.0 p.1 (joined-both p L), labels-both pairs (joined p L))
@@ -178,6 +186,7 @@ rows-closed rows later x =
     let pairs : List Pair = map pair_of rows ++ later in
     All-from_recursion (λ row. in_cluster pairs x row.first.0 ≡ in_cluster pairs x row.second.0) rows (rows-by (labels pairs) x rows later (labels-both pairs (λ t. t))).0
 
+-- the cluster of a tag over sibling rows and parent rows is closed under both
 pub clusters-closed : (siblings parents : List RelationRow) (x : ℕ)
     → IsClosed (in_cluster (map pair_of siblings ++ map pair_of parents) x) siblings
     × IsClosed (in_cluster (map pair_of siblings ++ map pair_of parents) x) parents
@@ -208,6 +217,7 @@ row-added S order rows row c here =
     append-none [] = refl
     append-none (x ∷ xs) = ap (λ l. x ∷ l) (append-none xs)
 
+-- a row that is removed changes the tags of a closed set alone in which its tags lie
 pub row-removed : (S : ℕ → Bool) (order : List ServiceNo) (n : ℕ) (rows : List RelationRow) → IsClosed S rows → S (get_or rows n no_row).first.0 ≡ true
     → n < length rows → (t : ℕ)
     → ideal order (removed_at n rows) t ≡ cond (S t) (ideal order (rows_within S (removed_at n rows)) t) (ideal order rows t)
