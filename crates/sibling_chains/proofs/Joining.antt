@@ -1,5 +1,5 @@
 -- The labels of clusters that are kept, once tags are tied together.
-use Rattle.std.proofs.Common.{◌≡◌, ◌∙◌, ◌⊎◌, ℕ, zero, suc, ◌+◌, ◌<◌, ◌≤◌, ◌==◌, ◌&&◌, ◌||◌, min, ltb, Bool, true, false, cond, List, [], ◌∷◌, ◌++◌, length, map, filter, get_or, All, refl, sym, ap, subst, inl, inr, arith}
+use Rattle.std.proofs.Common.{◌≡◌, ◌∙◌, ℕ, zero, suc, ◌<◌, ◌≤◌, ◌==◌, ◌&&◌, min, Bool, true, false, cond, List, [], ◌∷◌, ◌++◌, length, map, filter, get_or, All, refl, sym, ap, subst, inl, inr, arith}
 use Rattle.std.proofs.Math.Path.{fun_ext}
 use Rattle.std.specs.List.{AllByRecursion, list_any, range_with_len}
 use Rattle.std.proofs.lemmas.Bool.{cases_Bool, cases_lt, eq-eqb, le-ltb, lt-ltb}
@@ -9,8 +9,7 @@ use Rattle.std.proofs.lemmas.List.Elements.{All-from_recursion, All-push, All-we
 use Rattle.tag_types.specs.declared.limits.TheConstants.{MAX_TAGS}
 use Rattle.sibling_chains.specs.declared.relation_row.RelationRow.{RelationRow}
 use Rattle.sibling_chains.specs.Clustered.{AreClustered, all_pairs, is_of_two, label_of}
-use Rattle.sibling_chains.specs.Clusters.{IsClosed, in_cluster, joined, labels}
-use Rattle.sibling_chains.specs.ClusterLaws.{rows-closed}
+use Rattle.sibling_chains.specs.Clusters.{in_cluster, joined, labels}
 use Rattle.sibling_chains.specs.Ends.{at}
 use Rattle.sibling_chains.specs.Following.{Pair}
 use Rattle.sibling_chains.specs.Grouping.{is_either}

@@ -1,13 +1,12 @@
 -- Clusters that are folded anew, and what it makes of the ends of all services.
-use Rattle.std.proofs.Common.{◌≡◌, ◌∙◌, ◌⊎◌, ℕ, zero, suc, ◌+◌, ◌<◌, ◌≤◌, ◌==◌, ◌||◌, ◌&&◌, Bool, true, false, cond, List, [], ◌∷◌, ◌++◌, length, map, filter, get_or, set, ltb, All, Option, Some, None, IsSome, refl, sym, ap, subst, inl, inr, arith}
+use Rattle.std.proofs.Common.{◌≡◌, ◌∙◌, ℕ, ◌<◌, ◌≤◌, ◌==◌, ◌||◌, ◌&&◌, Bool, true, false, cond, List, [], ◌∷◌, ◌++◌, length, map, filter, get_or, set, ltb, All, Option, Some, None, IsSome, refl, sym, ap, subst, inl, inr, arith}
 use Rattle.std.proofs.Math.Path.{fun_ext}
 use Rattle.std.specs.List.{AllByRecursion, list_any, range_with_len}
 use Rattle.std.specs.Option.{ForSome, option_map}
-use Rattle.std.proofs.lemmas.Bool.{cases_Bool, cases_eq, cases_lt, ne_eqb, eq-eqb, eqb-true, false≢true, lt-ltb}
+use Rattle.std.proofs.lemmas.Bool.{cases_eq, cases_lt, ne_eqb, eq-eqb, eqb-true, false≢true, lt-ltb}
 use Rattle.std.proofs.lemmas.List.{append_assoc, get_or_append_left, get_or_past, get_or-set_same, get_or-set_other, length_push, map-append}
-use Rattle.std.proofs.lemmas.List.Elements.{All-push, All-weaker, recursion_from_All, filter-append, filter_agree, filter_passes}
+use Rattle.std.proofs.lemmas.List.Elements.{All-weaker, recursion_from_All, filter-append, filter_agree, filter_passes}
 use Rattle.media_types.specs.declared.numbers.ServiceNo.{ServiceNo}
-use Rattle.media_types.specs.declared.numbers.TagNo.{TagNo}
 use Rattle.sibling_chains.specs.declared.cluster.Cluster.{Cluster}
 use Rattle.sibling_chains.specs.declared.relation_row.RelationRow.{RelationRow}
 use Rattle.sibling_chains.specs.Clustered.{Clustered, IsClusterOf, all_pairs, is_of_two, label_of, rows_but}
@@ -17,10 +16,10 @@ use Rattle.sibling_chains.specs.Ends.{at, end_beside}
 use Rattle.sibling_chains.specs.Following.{Pair, good_of, ideal_by}
 use Rattle.sibling_chains.specs.Known.{AreEndsFor, AreFolded, rows_with}
 use Rattle.sibling_chains.specs.LabelLaws.{labels-least}
-use Rattle.sibling_chains.specs.Recorded.{ideal, no_row, pair_of, pairs_in, pairs_of, removed_at, standing_at, standing_place}
+use Rattle.sibling_chains.specs.Recorded.{ideal, no_row, pair_of, pairs_of, removed_at, standing_at, standing_place}
 use Rattle.sibling_chains.proofs.Gathered.{rows-counted}
 use Rattle.sibling_chains.proofs.GroupLists.{filter-by-place}
-use Rattle.sibling_chains.proofs.Joining.{All-removed, of-first, tied-set}
+use Rattle.sibling_chains.proofs.Joining.{of-first, tied-set}
 use Rattle.sibling_chains.proofs.Places.{first-removed, length-removed, removed-past, standing-first, standing-good, standing-none, standing-within}
 
 -- ---- the rows that are read

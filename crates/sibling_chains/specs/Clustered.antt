@@ -1,7 +1,6 @@
 -- The rows and ties of tags, with the clusters into which the tags fall.
-use Rattle.std.specs.Prelude.{◌≡◌, ◌<◌, ◌≤◌, ◌==◌, ◌&&◌, ℕ, Bool, true, min, nat_lt, List, map, ◌++◌, length, filter, All, Option, Some, None, find, slice_index_or}
+use Rattle.std.specs.Prelude.{◌≡◌, ◌<◌, ◌≤◌, ◌==◌, ℕ, Bool, min, List, map, ◌++◌, length, filter, All, Option, Some, None, slice_index_or}
 use Rattle.std.specs.List.{list_any, range_with_len}
-use Rattle.media_types.specs.declared.numbers.TagNo.{TagNo}
 use Rattle.tag_types.specs.declared.limits.TheConstants.{MAX_TAGS}
 use Rattle.sibling_chains.specs.declared.cluster.Cluster.{Cluster}
 use Rattle.sibling_chains.specs.declared.relation_row.RelationRow.{RelationRow}

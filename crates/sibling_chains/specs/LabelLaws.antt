@@ -8,6 +8,7 @@ use Rattle.sibling_chains.specs.Following.{Pair}
 use Rattle.sibling_chains.specs.Clusters.{joined, labels, labels_after}
 use Rattle.sibling_chains.specs.ClusterLaws.{labels-both, joined-both, joined-kept}
 
+-- each label is the least tag of its cluster
 pub record AreLeast (L : ℕ → ℕ) : Type 0 where
   pub low : (t : ℕ) → L t ≤ t
   pub own : (t : ℕ) → L (L t) ≡ L t
@@ -41,6 +42,7 @@ after-least : (pairs : List Pair) (L : ℕ → ℕ) → AreLeast L → AreLeast 
 after-least [] L h = h
 after-least (p ∷ pairs) L h = after-least pairs (joined p L) (joined-least p L h)
 
+-- labels are the least tags of their clusters
 pub labels-least : (pairs : List Pair) → AreLeast (labels pairs)
 labels-least pairs = after-least pairs (λ t. t) (record { low = λ t. omega arith; own = λ t. refl })
 
@@ -74,6 +76,7 @@ after-refines : (pairs : List Pair) (L M : ℕ → ℕ) → AllByRecursion (λ p
 after-refines [] L M c h = h
 after-refines (p ∷ pairs) L M c h = after-refines pairs (joined p L) M c.1 (joined-refines p L M c.0 h)
 
+-- no finer names go with the pairs
 pub labels-finest : (pairs : List Pair) (M : ℕ → ℕ) → All (λ p. M p.0 ≡ M p.1) pairs → (a b : ℕ) → labels pairs a ≡ labels pairs b → M a ≡ M b
 labels-finest pairs M c a b e =
     after-refines pairs (λ t. t) M (recursion_from_All (λ p. M p.0 ≡ M p.1) pairs c) (λ x y same. ap M same) a b e
@@ -95,6 +98,7 @@ append-whole : (P : Pair → Type 0) (xs : List Pair) (p : Pair) (ys : List Pair
 append-whole P [] p ys h a = (h, a)
 append-whole P (x ∷ xs) p ys h a = (a.0, append-whole P xs p ys h a.1)
 
+-- a pair that is recorded anywhere joins two clusters
 pub one-tie : (before later : List Pair) (p : Pair) (t : ℕ) → labels (before ++ p ∷ later) t ≡ joined p (labels (before ++ later)) t
 one-tie before later p =
     let whole : List Pair = before ++ p ∷ later in

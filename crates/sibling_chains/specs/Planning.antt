@@ -1,6 +1,5 @@
 -- Plans: what a change of the siblings comes to, and when it can be carried out.
-use Rattle.std.specs.Prelude.{◌≡◌, ◌<◌, ◌≤◌, ℕ, true, List, [], ◌∷◌, ◌++◌, length, filter, None, Some, IsSome, slice_set}
-use Rattle.std.specs.List.{range_with_len}
+use Rattle.std.specs.Prelude.{◌≡◌, ◌<◌, ◌≤◌, ℕ, true, List, [], ◌∷◌, ◌++◌, length, None, IsSome, slice_set}
 use Rattle.tag_types.specs.declared.limits.TheConstants.{MAX_RELATIONS}
 use Rattle.sibling_chains.specs.declared.relation_row.RelationRow.{RelationRow}
 use Rattle.sibling_chains.specs.declared.sibling_plan.Adding.{Adding}
@@ -11,7 +10,7 @@ use Rattle.sibling_chains.specs.declared.sibling_plan.Refold.{Refold}
 use Rattle.sibling_chains.specs.declared.sibling_plan.Removing.{Removing}
 use Rattle.sibling_chains.specs.declared.sibling_plan.SiblingPlan.{SiblingPlan}
 use Rattle.sibling_chains.specs.declared.sibling_plan.Tying.{Tying}
-use Rattle.sibling_chains.specs.Clustered.{IsClusterOf, rows_but}
+use Rattle.sibling_chains.specs.Clustered.{IsClusterOf}
 use Rattle.sibling_chains.specs.Clusters.{rows_within}
 use Rattle.sibling_chains.specs.Ends.{at}
 use Rattle.sibling_chains.specs.Following.{good_of}

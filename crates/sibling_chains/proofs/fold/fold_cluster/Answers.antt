@@ -1,4 +1,4 @@
-use Rattle.std.proofs.Common.{◌≡◌, ◌∙◌, ◌==◌, ℕ, List, true, length, get_or, take, sym, ap, arith}
+use Rattle.std.proofs.Common.{◌≡◌, ◌∙◌, ℕ, List, length, get_or, take, sym, ap, arith}
 use Rattle.std.proofs.lemmas.List.{take_all}
 use Rattle.media_types.specs.declared.numbers.ServiceNo.{ServiceNo}
 use Rattle.sibling_chains.specs.declared.relation_row.RelationRow.{RelationRow}

@@ -1,4 +1,4 @@
-use Rattle.std.proofs.Common.{◌<◌, ◌≤◌, ℕ, length, arith}
+use Rattle.std.proofs.Common.{arith}
 use Rattle.sibling_chains.proofs.Longs.{long-from}
 use Rattle.sibling_chains.proofs.fold.grow_all.Goals as goal
 

@@ -1,6 +1,6 @@
-use Rattle.std.proofs.Common.{◌≡◌, ◌∙◌, ◌==◌, ◌&&◌, not, Bool, true, ℕ, List, map, sym, ap, refl}
+use Rattle.std.proofs.Common.{◌≡◌, ◌∙◌, ◌==◌, ◌&&◌, not, true, ℕ, List, map, sym, ap}
 use Rattle.std.proofs.lemmas.Bool.{and_parts, eqb-true, eq-eqb, false≢true, not-true}
-use Rattle.sibling_chains.specs.Ends.{end_beside, ends, led_on}
+use Rattle.sibling_chains.specs.Ends.{end_beside, led_on}
 use Rattle.sibling_chains.proofs.Beside.{beside-left, beside-taken}
 use Rattle.sibling_chains.proofs.fold.meet.Goals as goal
 

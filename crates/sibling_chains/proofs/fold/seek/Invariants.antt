@@ -1,4 +1,4 @@
-use Rattle.std.proofs.Common.{◌≡◌, ◌==◌, cond, drop, Some, None}
+use Rattle.std.proofs.Common.{◌≡◌, ◌==◌, drop}
 use Rattle.std.specs.List.{list_any}
 use Rattle.sibling_chains.specs.Ends.{end_beside}
 use Rattle.sibling_chains.proofs.fold.seek.Given as goal

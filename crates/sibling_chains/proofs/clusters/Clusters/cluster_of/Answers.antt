@@ -1,6 +1,6 @@
-use Rattle.std.proofs.Common.{◌≡◌, ◌∙◌, ◌==◌, ◌<◌, ◌+◌, ◌*◌, ◌≤◌, ℕ, List, min, length, filter, sym, ap, arith, rules}
-use Rattle.std.specs.List.{list_any, range_with_len}
-use Rattle.sibling_chains.specs.Clustered.{AreClustered, IsClusterOf, is_of_two, label_of}
+use Rattle.std.proofs.Common.{◌≡◌, ◌∙◌, ◌==◌, ◌<◌, ℕ, List, min, length, ap, arith}
+use Rattle.std.specs.List.{list_any}
+use Rattle.sibling_chains.specs.Clustered.{is_of_two, label_of}
 use Rattle.sibling_chains.proofs.Gathered.{gathered-rows, gathered-tags, rows-counted}
 use Rattle.sibling_chains.proofs.Joining.{tags-any}
 use Rattle.sibling_chains.proofs.clusters.Clusters.cluster_of.Goals as goal

@@ -1,5 +1,4 @@
-use Rattle.std.proofs.Common.{◌≡◌, ◌≢◌, ◌∙◌, ◌<◌, Option, ℕ, List, length, get_or, Some, slice_get, sym, ap, rules}
-use Rattle.std.proofs.lemmas.Option.{slice_get_within}
+use Rattle.std.proofs.Common.{◌≡◌, ◌∙◌, Option, ℕ, List, get_or, sym, ap, rules}
 use Rattle.sibling_chains.specs.declared.relation_row.RelationRow.{RelationRow}
 use Rattle.sibling_chains.specs.Clustered.{rows_but}
 use Rattle.sibling_chains.specs.Recorded.{no_row, removed, removed_at}

@@ -1,4 +1,4 @@
-use Rattle.std.proofs.Common.{◌≡◌, ◌∙◌, ◌<◌, ◌==◌, ◌++◌, ◌∷◌, [], ℕ, List, All, cond, get_or, length, filter, min, true, refl, sym, ap, subst}
+use Rattle.std.proofs.Common.{◌≡◌, ◌∙◌, ◌<◌, ◌==◌, ℕ, List, All, cond, get_or, length, filter, min, sym, ap, subst}
 use Rattle.std.specs.List.{list_any, range_with_len}
 use Rattle.sibling_chains.specs.declared.relation_row.RelationRow.{RelationRow}
 use Rattle.sibling_chains.specs.Clustered.{AreClustered, IsClusterOf, is_of_two, label_of}

@@ -1,8 +1,7 @@
-use Rattle.std.proofs.Common.{◌≡◌, ◌∙◌, ◌≤◌, ◌+◌, ◌-◌, ℕ, List, [], ◌∷◌, ◌++◌, Bool, length, filter, sym, ap, arith, rules, ◌<◌}
-use Rattle.std.specs.List.{range_with_len}
+use Rattle.std.proofs.Common.{◌≡◌, ◌∙◌, ◌-◌, ℕ, List, [], ◌∷◌, ◌++◌, Bool, length, sym, ap, arith, rules, ◌<◌}
 use Rattle.std.proofs.lemmas.List.{length_push}
 use Rattle.sibling_chains.specs.Ends.{at}
-use Rattle.sibling_chains.specs.Grouping.{is_either, numbers_of}
+use Rattle.sibling_chains.specs.Grouping.{is_either}
 use Rattle.sibling_chains.proofs.GroupLists.{passed-end, passed-le, passed-next}
 use Rattle.sibling_chains.proofs.grouped.Grouped.members.Goals as goal
 

@@ -1,7 +1,3 @@
-use Rattle.std.proofs.Common.{◌==◌, ℕ, length, subst, sym}
-use Rattle.spare_tables.specs.Pairs.{second_of}
-use Rattle.sibling_chains.specs.Ends.{at}
-use Rattle.sibling_chains.specs.Grouping.{IsNext}
 use Rattle.sibling_chains.proofs.GroupLists.{next-from}
 use Rattle.sibling_chains.proofs.grouped.Grouped.next.Goals as goal
 

@@ -1,6 +1,5 @@
-use Rattle.std.proofs.Common.{◌≡◌, ◌<◌, ◌↔◌, ◌⊎◌, ℕ, List, Contains, length, sym, ap, subst, rules}
+use Rattle.std.proofs.Common.{◌≡◌, ◌<◌, ◌↔◌, ◌⊎◌, ℕ, List, Contains, length, subst, rules}
 use Rattle.sibling_chains.specs.Following.{Pair}
-use Rattle.sibling_chains.specs.Grouping.{IsGrouped}
 use Rattle.sibling_chains.proofs.GroupLists.{push-grouped}
 use Rattle.sibling_chains.proofs.grouped.Grouped.push.Goals as goal
 

@@ -1,7 +1,6 @@
-use Rattle.std.proofs.Common.{◌≡◌, ◌<◌, ◌≤◌, ◌+◌, ◌↔◌, ◌⊎◌, ◌≢◌, ℕ, List, true, Contains, length, sym, ap, subst, ◌∙◌, ◌-◌, min, arith}
+use Rattle.std.proofs.Common.{◌≡◌, ◌<◌, ◌≤◌, ◌+◌, ◌↔◌, ◌≢◌, ℕ, List, Contains, length, sym, ap, subst, ◌∙◌, ◌-◌, min, arith}
 use Rattle.std.specs.BTreeMap.{is_at}
 use Rattle.std.specs.Cmp.{eq_by_cmp_equiv}
-use Rattle.std.specs.List.{list_any}
 use Rattle.std.specs.Set.{remove_key}
 use Rattle.std.proofs.lemmas.Map.Made.{length-remove_key}
 use Rattle.std.proofs.lemmas.Map.Views.{list_any-from_Contains}
@@ -10,7 +9,6 @@ use Rattle.spare_tables.specs.Order.{pair_cmp}
 use Rattle.spare_tables.specs.PairLaws.{pair_order}
 use Rattle.sibling_chains.specs.Ends.{at}
 use Rattle.sibling_chains.specs.Following.{Pair}
-use Rattle.sibling_chains.specs.Grouping.{IsGrouped}
 use Rattle.sibling_chains.proofs.GroupLists.{put-grouped}
 use Rattle.sibling_chains.proofs.grouped.Grouped.put.Goals as goal
 

@@ -1,7 +1,7 @@
-use Rattle.std.proofs.Common.{◌≡◌, ◌∙◌, ◌<◌, ℕ, List, length, get_or, Option, Some, None, sym, ap}
+use Rattle.std.proofs.Common.{◌∙◌, List, get_or, Some, sym, ap}
 use Rattle.std.specs.Option.{option_map}
 use Rattle.sibling_chains.specs.declared.relation_row.RelationRow.{RelationRow}
-use Rattle.sibling_chains.specs.Recorded.{no_row, standing_at}
+use Rattle.sibling_chains.specs.Recorded.{no_row}
 use Rattle.sibling_chains.proofs.Places.{row-there, standing-good, standing-within}
 use Rattle.sibling_chains.proofs.pair_rows.PairRows.find.Goals as goal
 

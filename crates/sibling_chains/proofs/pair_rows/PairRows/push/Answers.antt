@@ -1,12 +1,9 @@
-use Rattle.std.proofs.Common.{◌≡◌, ◌≢◌, ◌∙◌, ◌<◌, ℕ, List, length, Option, Some, None, true, sym, ap, subst, refl, rules}
-use Rattle.media_types.specs.declared.numbers.ServiceNo.{ServiceNo}
-use Rattle.std.specs.Option.{option_map}
+use Rattle.std.proofs.Common.{◌≡◌, ◌≢◌, ◌<◌, List, length, Some, None, true, subst, refl, rules}
 use Rattle.spare_tables.specs.Keys.{value_of}
 use Rattle.spare_tables.specs.Order.{pair_cmp}
 use Rattle.tag_types.specs.declared.limits.TheConstants.{MAX_RELATIONS}
 use Rattle.sibling_chains.specs.declared.relation_row.RelationRow.{RelationRow}
 use Rattle.sibling_chains.specs.Following.{Pair, good_of}
-use Rattle.sibling_chains.specs.PairTable.{ArePlaced}
 use Rattle.sibling_chains.specs.Recorded.{pairs_of, standing_at}
 use Rattle.sibling_chains.proofs.Places.{no-good, placed-push}
 use Rattle.sibling_chains.proofs.pair_rows.PairRows.push.Goals as goal

@@ -1,4 +1,4 @@
-use Rattle.std.proofs.Common.{◌≡◌, ◌≢◌, ◌∙◌, ◌<◌, ◌≤◌, ℕ, List, length, set, slice_get, Option, Some, None, sym, ap, subst, refl, rules, arith}
+use Rattle.std.proofs.Common.{◌≡◌, ◌≢◌, ◌∙◌, List, length, set, Some, None, sym, ap, subst, rules, arith}
 use Rattle.std.proofs.Math.ListN.{length-set}
 use Rattle.spare_tables.specs.Keys.{value_of}
 use Rattle.spare_tables.specs.Order.{pair_cmp}

@@ -1,6 +1,5 @@
-use Rattle.std.proofs.Common.{◌≡◌, ◌∙◌, ◌==◌, ◌++◌, ◌∷◌, [], ℕ, List, cond, get_or, length, set, sym, ap, subst}
-use Rattle.std.specs.List.{list_any}
-use Rattle.sibling_chains.specs.Ends.{at, end_beside}
+use Rattle.std.proofs.Common.{◌≡◌, ◌∙◌, ◌++◌, ◌∷◌, [], sym, subst}
+use Rattle.sibling_chains.specs.Ends.{at}
 use Rattle.sibling_chains.specs.Known.{Known, ideal_in}
 use Rattle.sibling_chains.specs.Planning.{IsAdding, IsChangeFor, IsOrdering, IsPlanFor, IsRemoving, after, changed, row_of}
 use Rattle.sibling_chains.specs.Clustered.{is_of_two}

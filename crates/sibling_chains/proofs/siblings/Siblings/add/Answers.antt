@@ -1,4 +1,4 @@
-use Rattle.std.proofs.Common.{◌≡◌, ◌∙◌, ◌<◌, ◌≤◌, ◌==◌, ◌++◌, ◌∷◌, [], ℕ, List, All, Bool, cond, get_or, length, filter, true, refl, sym, ap, subst, arith}
+use Rattle.std.proofs.Common.{◌≡◌, ◌∙◌, ◌<◌, ◌==◌, ◌++◌, ◌∷◌, [], ℕ, List, All, Bool, cond, get_or, length, filter, true, sym, subst}
 use Rattle.std.specs.List.{list_any, range_with_len}
 use Rattle.std.proofs.lemmas.List.Elements.{All-push}
 use Rattle.media_types.specs.declared.numbers.ServiceNo.{ServiceNo}
@@ -7,11 +7,9 @@ use Rattle.sibling_chains.specs.Clustered.{is_of_two}
 use Rattle.sibling_chains.specs.Clusters.{rows_within}
 use Rattle.sibling_chains.specs.Ends.{at, end_beside}
 use Rattle.sibling_chains.specs.Known.{AreEndsFor, AreFolded}
-use Rattle.sibling_chains.specs.Recorded.{removed, removed_at, standing_place}
 use Rattle.sibling_chains.proofs.Gathered.{passed-below}
-use Rattle.sibling_chains.proofs.Joining.{All-removed}
 use Rattle.sibling_chains.proofs.Longs.{long-at}
-use Rattle.sibling_chains.proofs.Refolding.{changes-add, changes-removal, known-tags, refolded, room-long}
+use Rattle.sibling_chains.proofs.Refolding.{changes-add, known-tags, refolded, room-long}
 use Rattle.sibling_chains.proofs.siblings.Siblings.add.Goals as goal
 
 pub put_all_ends-requires-clause-known : goal.put_all_ends-requires-clause-known

@@ -1,4 +1,4 @@
-use Rattle.std.proofs.Common.{◌∙◌, ◌++◌, ◌∷◌, [], List, ap, subst, sym, slice_set}
+use Rattle.std.proofs.Common.{◌∙◌, ◌++◌, ◌∷◌, [], ap, subst, sym, slice_set}
 use Rattle.sibling_chains.specs.declared.sibling_plan.Adding.{Adding}
 use Rattle.sibling_chains.specs.declared.sibling_plan.Ordered.{Ordered}
 use Rattle.sibling_chains.specs.declared.sibling_plan.Removing.{Removing}

@@ -1,4 +1,4 @@
-use Rattle.std.proofs.Common.{◌≡◌, ◌∙◌, ◌≤◌, ℕ, List, ltb, cond, length, sym, ap, arith}
+use Rattle.std.proofs.Common.{◌∙◌, ℕ, List, cond, length, sym, ap, arith}
 use Rattle.std.proofs.lemmas.Bool.{le-ltb}
 use Rattle.std.proofs.lemmas.List.FromFn.{length-range_with_len}
 use Rattle.sibling_chains.specs.Ends.{at}

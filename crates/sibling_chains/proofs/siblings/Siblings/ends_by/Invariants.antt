@@ -1,4 +1,4 @@
-use Rattle.std.proofs.Common.{◌≡◌, ◌≤◌, ℕ, cond, ltb, length}
+use Rattle.std.proofs.Common.{◌≡◌, ℕ, cond, ltb, length}
 use Rattle.sibling_chains.specs.Ends.{at}
 use Rattle.sibling_chains.specs.Known.{label_in}
 use Rattle.sibling_chains.specs.Recorded.{ideal}

@@ -1,5 +1,5 @@
-use Rattle.std.proofs.Common.{◌≡◌, ◌∙◌, ◌<◌, ◌≤◌, ◌==◌, ℕ, List, All, Bool, None, cond, true, length, map, get_or, filter, sym, ap, subst, arith}
-use Rattle.std.specs.List.{list_any, range_with_len}
+use Rattle.std.proofs.Common.{◌≡◌, ◌∙◌, ◌<◌, ◌≤◌, ◌==◌, ℕ, List, All, Bool, None, cond, true, length, map, get_or, sym, ap, subst}
+use Rattle.std.specs.List.{list_any}
 use Rattle.sibling_chains.specs.declared.relation_row.RelationRow.{RelationRow}
 use Rattle.sibling_chains.specs.Clustered.{IsClusterOf, is_of_two, label_of}
 use Rattle.sibling_chains.specs.Clusters.{rows_within}

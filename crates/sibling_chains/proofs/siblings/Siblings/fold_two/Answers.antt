@@ -1,12 +1,10 @@
-use Rattle.std.proofs.Common.{◌≡◌, ◌∙◌, ◌<◌, ◌≤◌, ◌+◌, ◌*◌, ◌==◌, ℕ, List, All, true, length, map, get_or, filter, Option, Some, sym, ap, subst, arith, rules}
-use Rattle.std.specs.List.{list_any, range_with_len}
+use Rattle.std.proofs.Common.{◌≡◌, ◌∙◌, ◌<◌, ◌==◌, ℕ, List, All, true, length, map, get_or, sym, ap, subst, arith}
+use Rattle.std.specs.List.{list_any}
 use Rattle.std.specs.Option.{ForSome}
 use Rattle.sibling_chains.specs.declared.relation_row.RelationRow.{RelationRow}
-use Rattle.sibling_chains.specs.declared.cluster.Cluster.{Cluster}
-use Rattle.sibling_chains.specs.Clustered.{Clustered, IsClusterOf, is_of_two, rows_but}
+use Rattle.sibling_chains.specs.Clustered.{IsClusterOf, is_of_two, rows_but}
 use Rattle.sibling_chains.specs.Clusters.{rows_within}
 use Rattle.sibling_chains.specs.Known.{AreEndsFor, rows_with}
-use Rattle.sibling_chains.specs.Planning.{IsRefold}
 use Rattle.sibling_chains.specs.Recorded.{no_row}
 use Rattle.sibling_chains.proofs.Gathered.{passed-below}
 use Rattle.sibling_chains.proofs.Refolding.{firsts-there, numbers-counted, rows-gathered}

@@ -1,4 +1,4 @@
-use Rattle.std.proofs.Common.{◌<◌, [], sym, ap, ◌∙◌, refl}
+use Rattle.std.proofs.Common.{◌<◌, [], sym, refl}
 use Rattle.std.proofs.lemmas.List.Elements.{All-nil}
 use Rattle.sibling_chains.specs.declared.relation_row.RelationRow.{RelationRow}
 use Rattle.sibling_chains.proofs.Refolding.{ideal-none}

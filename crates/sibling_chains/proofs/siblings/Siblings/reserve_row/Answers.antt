@@ -1,4 +1,4 @@
-use Rattle.std.proofs.Common.{◌≡◌, ◌∙◌, ◌-◌, ℕ, List, length, min, cond, sym, ap, refl, rules}
+use Rattle.std.proofs.Common.{◌≡◌, ◌∙◌, ◌-◌, min, cond, ap, rules}
 use Rattle.sibling_chains.specs.Known.{are_long}
 use Rattle.sibling_chains.specs.Clustered.{Clustered}
 use Rattle.sibling_chains.proofs.siblings.Siblings.reserve_row.Goals as goal

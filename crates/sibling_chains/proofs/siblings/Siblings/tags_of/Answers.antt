@@ -1,4 +1,4 @@
-use Rattle.std.proofs.Common.{◌≡◌, ◌==◌, ◌<◌, ℕ, Bool, None, Some, true, arith}
+use Rattle.std.proofs.Common.{◌≡◌, ◌==◌, ℕ, Bool, None, Some, true, arith}
 use Rattle.sibling_chains.specs.Grouping.{IsNext}
 use Rattle.sibling_chains.specs.Known.{is_behind, label_in}
 use Rattle.sibling_chains.proofs.Nexts.{next-none, next-some}
