@@ -1,0 +1,11 @@
+pub mod Beside
+pub mod Folds
+pub mod Gathered
+pub mod GroupLists
+pub mod Joining
+pub mod Lists
+pub mod Longs
+pub mod Nexts
+pub mod Places
+pub mod Puts
+pub mod Refolding

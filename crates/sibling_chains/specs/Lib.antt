@@ -1,0 +1,12 @@
+pub mod ClusterLaws
+pub mod Clustered
+pub mod Clusters
+pub mod EndLaws
+pub mod Ends
+pub mod Following
+pub mod Grouping
+pub mod Known
+pub mod LabelLaws
+pub mod PairTable
+pub mod Planning
+pub mod Recorded
