@@ -1,7 +1,7 @@
 //! Sessions over keepers in memory.
 
 use super::{DECISION_0, FILE_0, FILE_1, FOUR_LINES, FOUR_REPLIES, RELATED};
-use crate::tests::lines::{Line, input_of};
+use crate::tests::lines::{Line, State, input_of};
 use crate::tests::playing::{Outlet, assert_replies, calls_of, owned_words, run_over, source_of};
 use library_core::LoadFail;
 use media_base::{BytesSource, Change, ChangeList, NoMemory, Status};
@@ -12,6 +12,10 @@ use std::test::Fail;
 use std::thread::Threads;
 
 const UNKNOWN_FILE: &str = "{\"error\":\"unknown_file\"}\n";
+
+const UNKNOWN_TAG: &str = "{\"error\":\"unknown_tag\"}\n";
+
+const TAG_0: &str = "{\"tag\":0,\"changed\":true}\n";
 
 const NOT_KEPT: &str = "{\"error\":\"not_kept\"}\n";
 
@@ -132,7 +136,7 @@ fn assert_all(rt: &(impl Threads + Abort), alloc: Global, cases: &[Case]) -> Res
     Ok(())
 }
 
-const REFUSED_CHANGES: [Case; 2] = [
+const REFUSED_CHANGES: [Case; 4] = [
     Case {
         lines: &[Line::Import(0), Line::Import(1), Line::Import(1)],
         failing_call: 3,
@@ -145,6 +149,39 @@ const REFUSED_CHANGES: [Case; 2] = [
         limit: 1,
         replies: &[FILE_0, JOURNAL_FULL, JOURNAL_FULL],
         kept: 1,
+        ..Case::PLAIN
+    },
+    // A tag that isn't kept has no number.
+    Case {
+        lines: &[
+            Line::Import(0),
+            Line::Map(0, "a", 0, State::Current),
+            Line::Map(0, "b", 0, State::Current),
+            Line::Unmap(0, "a", 0),
+        ],
+        failing_call: 3,
+        replies: &[FILE_0, NOT_KEPT, TAG_0, UNKNOWN_TAG],
+        kept: 2,
+        ..Case::PLAIN
+    },
+    // A tag that is mapped so already wants no room.
+    Case {
+        lines: &[
+            Line::Import(0),
+            Line::Map(0, "a", 0, State::Current),
+            Line::Map(0, "a", 0, State::Current),
+            Line::Map(0, "a", 0, State::Pending),
+            Line::Mappings(0, 0),
+        ],
+        limit: 2,
+        replies: &[
+            FILE_0,
+            TAG_0,
+            "{\"tag\":0,\"changed\":false}\n",
+            JOURNAL_FULL,
+            "{\"current\":[\"a\"],\"pending\":[],\"deleted\":[]}\n",
+        ],
+        kept: 2,
         ..Case::PLAIN
     },
 ];

@@ -207,12 +207,26 @@ impl PlainTags {
         self.changed(changed)
     }
 
-    // The tags that are mapped so, in the order of first use.
-    fn listed(&self, service: u32, file: u32, state: State) -> Result<String, AllocError> {
+    // The file's mappings in the service, in the order of the tags' first use.
+    fn rows_of(&self, service: u32, file: u32) -> Result<Vec<PlainMapping>, AllocError> {
+        let mut rows: Vec<PlainMapping> = self
+            .mappings
+            .iter()
+            .filter(|mapping| mapping.service == service && mapping.file == file)
+            .copied()
+            .collect(self.alloc)?;
+        rows.sort_by_key(|mapping| mapping.tag)?;
+        Ok(rows)
+    }
+
+    // The tags of the mappings that have this state.
+    fn listed(&self, rows: &[PlainMapping], state: State) -> Result<String, AllocError> {
         let mut list = String::from_str(self.alloc, "[")?;
         let mut between = "";
-        for (tag, text) in self.tags.iter().enumerate() {
-            if self.state(service, tag, file) == Some(state) {
+        for row in rows {
+            if row.state == state
+                && let Some(text) = self.tags.get(row.tag)
+            {
                 write!(list, "{between}\"{text}\"")?;
                 between = ",";
             }
@@ -225,9 +239,10 @@ impl PlainTags {
         if let Some(why) = self.missing(service, file) {
             return self.refused(why);
         }
-        let current = self.listed(service, file, State::Current)?;
-        let pending = self.listed(service, file, State::Pending)?;
-        let deleted = self.listed(service, file, State::Deleted)?;
+        let rows = self.rows_of(service, file)?;
+        let current = self.listed(&rows, State::Current)?;
+        let pending = self.listed(&rows, State::Pending)?;
+        let deleted = self.listed(&rows, State::Deleted)?;
         format!(in self.alloc;
             "{{\"current\":{current},\"pending\":{pending},\"deleted\":{deleted}}}"
         )
