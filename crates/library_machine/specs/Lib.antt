@@ -13,6 +13,7 @@ pub mod Records
 pub mod Searches
 pub mod Session
 pub mod Step
+pub mod StepLaws
 pub mod Worked
 pub use Rattle.decision_book.specs.Recorded
 pub use Rattle.decision_book.specs.Standing
