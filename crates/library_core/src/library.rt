@@ -70,7 +70,6 @@ impl<K: Keeper> Library<K> {
         // Searches, pages of pairs and deletions read no more than this.
         ensures reads { IsWithin (most_reads self.old.state.kept self.old.tree.nodes command.now) steps.old steps.new }
     {
-        library_machine::refusals_change_nothing();
         let Caller::Console = caller;
         let reply = self.answer_of(command, steps);
         self.in_step();

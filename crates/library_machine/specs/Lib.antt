@@ -13,6 +13,7 @@ pub mod Records
 pub mod Searches
 pub mod Session
 pub mod Step
+pub mod StepLaws
 pub mod TaggedLaws
 pub mod Tagging
 pub mod Worked
