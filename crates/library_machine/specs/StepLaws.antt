@@ -2,7 +2,7 @@
 use Rattle.std.proofs.Common.{◌≡◌, Err, refl, sym, ◌∙◌}
 use Rattle.media_base.specs.declared.refusal.Refusal.{Refusal}
 use Rattle.library_machine.specs.Laws.{RefusalsChangeNothing, RefusedAnswersChangeNothing}
-use Rattle.library_machine.specs.Step.{State, Outcome, refused, told, changed, after, reply_of, step, Answered, by_step, no_memory, journal_full, not_kept}
+use Rattle.library_machine.specs.Step.{State, Outcome, refused, told, changed, after, reply_of, step, by_step, no_memory, journal_full, not_kept}
 
 after_refused : (s : State) (o : Outcome) (why : Refusal) → reply_of o ≡ Err why → after s o ≡ s
 after_refused s (refused one) why e = refl

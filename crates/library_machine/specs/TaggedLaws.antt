@@ -1,12 +1,11 @@
 -- What changes of services and mappings leave: records that fit, and others.
-use Rattle.std.proofs.Common.{◌≡◌, ◌≢◌, ◌⊎◌, ◌<◌, ◌≤◌, ◌&&◌, ◌==◌, inl, inr, ℕ, Bool, true, false, not, Option, Some, None, is_some, option_and_then, unwrap_or, List, [], ◌∷◌, ◌++◌, length, length-append, slice_get, slice_set, arith, refl, sym, ap, subst, ◌∙◌}
+use Rattle.std.proofs.Common.{◌≡◌, ◌≢◌, ◌⊎◌, ◌<◌, ◌≤◌, ◌&&◌, inl, inr, ℕ, Bool, true, false, Option, Some, None, option_and_then, List, [], ◌∷◌, ◌++◌, length, length-append, slice_get, slice_set, arith, refl, sym, ap, subst, ◌∙◌}
 use Rattle.std.specs.Option.{option_map_or}
 use Rattle.std.specs.Prelude.{IsSome, Contains}
 use Rattle.std.specs.List.Sorted.{IsStrictlySortedBy}
-use Rattle.std.proofs.lemmas.Bool.{eq-eqb, both_ways}
+use Rattle.std.proofs.lemmas.Bool.{both_ways}
 use Rattle.std.proofs.lemmas.List.{get_or-set_same, length-set}
 use Rattle.std.proofs.lemmas.Option.{slice_get-get_or}
-use Rattle.media_types.specs.declared.numbers.FileNo.{FileNo}
 use Rattle.media_types.specs.declared.numbers.ServiceNo.{ServiceNo}
 use Rattle.media_base.specs.declared.change.Mapping.{Mapping}
 use Rattle.tag_types.specs.declared.limits.TheConstants.{MAX_MAPPINGS, MAX_SERVICES, MAX_TAGS}
@@ -22,7 +21,7 @@ use Rattle.tag_store.specs.NumberingLaws.{distinct-with_tag, known_stays, length
 use Rattle.library_machine.specs.Changing.{mapping_needs}
 use Rattle.library_machine.specs.Guards.{AreMet}
 use Rattle.library_machine.specs.Needs.{Met}
-use Rattle.library_machine.specs.Records.{Records, AreThere, TagsFit, IsService, IsThere, IsTagged}
+use Rattle.library_machine.specs.Records.{Records, AreThere, TagsFit, IsService, IsThere}
 use Rattle.library_machine.specs.Tagging.{has_orders, is_mapped_so, is_same, is_state, mapped, numbered, with_mapping, with_orders, with_service}
 
 pub fit_more_files : (n m : ℕ) (r : Records) → n ≤ m → TagsFit n r.tags r.services r.mappings → TagsFit m r.tags r.services r.mappings

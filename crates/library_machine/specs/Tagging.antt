@@ -1,5 +1,5 @@
 -- Tags, services and mappings among the records.
-use Rattle.std.specs.Prelude.{ℕ, Bool, true, false, not, ◌==◌, ◌&&◌, List, [], ◌∷◌, ◌++◌, map, filter, slice_get, slice_index_or, slice_set, length, Option, Some, None, option_and_then}
+use Rattle.std.specs.Prelude.{ℕ, Bool, true, false, not, ◌&&◌, List, [], ◌∷◌, ◌++◌, map, filter, slice_get, slice_index_or, slice_set, length, Option, Some, None, option_and_then}
 use Rattle.std.specs.Option.{option_map_or}
 use Rattle.media_types.specs.declared.numbers.ServiceNo.{ServiceNo}
 use Rattle.media_types.specs.declared.numbers.FileNo.{FileNo}

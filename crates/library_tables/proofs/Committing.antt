@@ -1,7 +1,6 @@
 -- The tables stay in step when a planned change is made.
-use Rattle.std.proofs.Common.{◌≡◌, ◌<◌, ◌+◌, ◌≤◌, ◌&&◌, ℕ, Bool, true, Some, None, Result, Ok, Err, IfOk, if◌then◌else◌, List, [], ◌∷◌, ◌++◌, length, length-append, refl, arith, ap, subst, sym, ◌∙◌}
+use Rattle.std.proofs.Common.{◌≡◌, ◌<◌, ◌+◌, ◌≤◌, ℕ, Bool, if◌then◌else◌, List, [], ◌∷◌, ◌++◌, length, length-append, refl, arith, ap, subst, sym, ◌∙◌}
 use Rattle.std.specs.List.{All}
-use Rattle.media_types.specs.declared.fault.NoMemory.{NoMemory}
 use Rattle.media_types.specs.declared.hash.Hash64.{Hash64}
 use Rattle.media_types.specs.declared.numbers.FileNo.{FileNo}
 use Rattle.spare_tables.specs.Table.{Table}
@@ -9,16 +8,16 @@ use Rattle.file_records.specs.declared.file_row.FileRow.{FileRow}
 use Rattle.file_records.specs.NearLaws as near
 use Rattle.file_records.specs.QueueLaws.{queue_known, queue_one_more}
 use Rattle.file_records.specs.Near.{near_pairs}
-use Rattle.file_records.specs.Living.{deleted, with_live_mark}
-use Rattle.file_records.specs.Searching.{is_queued, passes, queue_of, searched, wants_search}
+use Rattle.file_records.specs.Living.{deleted}
+use Rattle.file_records.specs.Searching.{is_queued, queue_of}
 use Rattle.file_records.specs.Words.{words_of}
 use Rattle.decision_book.specs.Recorded.{Recorded}
 use Rattle.relation_groups.specs.Reading.{Kept, relations_in, size_of}
 use Rattle.relation_groups.specs.Relations.{Relations}
 use Rattle.spare_tables.specs.Pairs.{pairs_below}
-use Rattle.potential_pairs.specs.Planning.{Found, PlanView, room_of, with_found, with_live}
+use Rattle.potential_pairs.specs.Planning.{PlanView, room_of}
 use Rattle.potential_pairs.specs.Planning.{after as pairs_after}
-use Rattle.potential_pairs.specs.Potential.{AreBelow, AreOf}
+use Rattle.potential_pairs.specs.Potential.{AreOf}
 use Rattle.potential_pairs.specs.Potential.{KeptPairs}
 use Rattle.vp_tree.specs.declared.node.NodeView.{NodeView}
 use Rattle.vp_tree.specs.Nodes.{words_in}
@@ -26,13 +25,9 @@ use Rattle.tree_upkeep.specs.Marks.{AreNodes}
 use Rattle.tree_upkeep.specs.EndLaws.{at_end}
 use Rattle.tree_upkeep.specs.Queue.{Work, noted}
 use Rattle.library_machine.specs.Records.{Records, Fits}
-use Rattle.library_tables.specs.declared.deletion.PlannedLive.{PlannedLive}
 use Rattle.library_tables.specs.declared.imports.PlannedImport.{PlannedImport}
-use Rattle.library_tables.specs.declared.searches.PlannedSearch.{PlannedSearch}
-use Rattle.library_tables.specs.Deletion.{LeadsLive}
 use Rattle.library_tables.specs.Imports.{LeadsImport, words_planned}
 use Rattle.library_tables.specs.Pairs.{LeadsPairs}
-use Rattle.library_tables.specs.Searches.{LeadsSearch}
 use Rattle.library_tables.specs.Tables.{TablesView, AreInStep, ArePairsOf}
 
 -- a new file is noted as what it is

@@ -18,7 +18,7 @@ use Rattle.relation_groups.specs.FoldLaws.{after-push}
 use Rattle.relation_groups.specs.Laws.{AreSound}
 use Rattle.relation_groups.specs.Reading.{Kept, IsPlanFor, Planned, relations_after, relations_in}
 use Rattle.relation_groups.specs.SoundLaws.{relations-sound}
-use Rattle.relation_groups.specs.Relations.{Relations, by_code, decided, relations, relations_at, standing_of}
+use Rattle.relation_groups.specs.Relations.{by_code, decided, relations, relations_at, standing_of}
 use Rattle.library_machine.specs.Asking.{asked, answer, query_needs}
 use Rattle.library_machine.specs.Changing.{answer_to, does, effect, is_idle, needs}
 use Rattle.library_machine.specs.GoodLaws.{changes_keep_fit}

@@ -1,14 +1,13 @@
 -- What is prepared for services and mappings is what the changes come to.
-use Rattle.std.proofs.Common.{◌≡◌, ◌≤◌, ◌<◌, ◌&&◌, ◌||◌, ◌⊎◌, inl, inr, ℕ, Bool, true, false, not, nat_lt, nat_le, Some, None, Ok, Err, Option, is_some, [], ◌∷◌, List, length, refl, arith, ap, subst, sym, ◌∙◌}
+use Rattle.std.proofs.Common.{◌≡◌, ◌<◌, ◌||◌, inl, inr, ℕ, Bool, true, false, not, nat_lt, Some, None, Ok, Err, Option, is_some, [], ◌∷◌, List, length, refl, ap, sym, ◌∙◌}
 use Rattle.std.specs.List.{list_all}
 use Rattle.std.proofs.lemmas.Bool.{and_parts, ltb-true, both_ways}
-use Rattle.std.proofs.lemmas.Bool.Decides.{nat_tests}
 use Rattle.media_types.specs.declared.numbers.ServiceNo.{ServiceNo}
 use Rattle.media_base.specs.declared.change.Change.TheVariants as changes
 use Rattle.media_base.specs.declared.change.Mapping.{Mapping}
 use Rattle.media_base.specs.declared.refusal.Unmet.TheVariants as whys
 use Rattle.media_base.specs.declared.reply.Answer.TheVariants as answers
-use Rattle.tag_types.specs.declared.limits.TheConstants.{MAX_MAPPINGS, MAX_SERVICES, MAX_TAGS}
+use Rattle.tag_types.specs.declared.limits.TheConstants.{MAX_SERVICES, MAX_TAGS}
 use Rattle.tag_types.specs.declared.map_state.MapState.{MapState}
 use Rattle.tag_types.specs.declared.orders.Orders.{Orders}
 use Rattle.tag_store.specs.Numbering.{HasPlaceFor, is_tag, number_of}
@@ -16,13 +15,12 @@ use Rattle.tag_store.specs.NumberingLaws.{is_numbered, numbered_there, tagged}
 use Rattle.library_machine.specs.Changing.{answer_to, does, effect, is_idle, mapping_needs, needs}
 use Rattle.library_machine.specs.Guards.{guarded}
 use Rattle.library_machine.specs.GoodLaws.{changes_keep_fit}
-use Rattle.library_machine.specs.Needs.{Need, has_file, has_mapping, has_service, has_tag, is_met, room_for_mapping, room_for_tag, tag_there, unmet}
+use Rattle.library_machine.specs.Needs.{Need, has_file, has_service, has_tag, is_met, room_for_mapping, room_for_tag, tag_there, unmet}
 use Rattle.library_machine.specs.Records.{Records, Fits}
-use Rattle.library_machine.specs.Tagging.{has_orders, is_mapped_so, mapped, mapping_told, numbered, services_named, with_mapping, with_orders, with_service}
+use Rattle.library_machine.specs.Tagging.{has_orders, is_mapped_so, mapping_told, numbered, services_named}
 use Rattle.library_tables.specs.declared.plan.Prepared.TheVariants as prepared
 use Rattle.library_tables.specs.declared.plan.TablesPlan.TheVariants as plans
 use Rattle.library_tables.specs.declared.tags.PlannedMapping.{PlannedMapping}
-use Rattle.library_tables.specs.declared.tags.PlannedOrders.{PlannedOrders}
 use Rattle.library_tables.specs.Preparing.{IsPrepared}
 use Rattle.library_tables.specs.Tables.{TablesView, records_of}
 use Rattle.library_tables.specs.Tags.{IsReady}

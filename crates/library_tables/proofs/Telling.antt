@@ -1,6 +1,6 @@
 -- The tags of a file are told one after the other, each among those of its state.
-use Rattle.std.proofs.Common.{◌≡◌, ◌<◌, ◌≤◌, ◌+◌, ℕ, Some, None, is_some, List, [], ◌∷◌, ◌++◌, length, get_or, slice_get, slice_index_or, append_assoc, refl, sym, ap, subst, ◌∙◌, arith}
-use Rattle.std.specs.Prelude.{All, Contains, IsSome}
+use Rattle.std.proofs.Common.{◌≡◌, ◌<◌, ◌≤◌, ◌+◌, ℕ, Some, is_some, List, [], ◌∷◌, length, get_or, slice_get, slice_index_or, append_assoc, refl, sym, ap, subst, ◌∙◌, arith}
+use Rattle.std.specs.Prelude.{All}
 use Rattle.std.proofs.lemmas.List.{append-nil}
 use Rattle.std.proofs.lemmas.List.Elements.{All-contains_itself, All-head, All-tail}
 use Rattle.std.proofs.lemmas.Option.{get_or_from_slice_get}
@@ -10,7 +10,7 @@ use Rattle.media_types.specs.declared.numbers.TagNo.{TagNo}
 use Rattle.media_base.specs.declared.reply.FileMappings.{FileMappings}
 use Rattle.tag_types.specs.declared.map_state.MapState.{MapState}
 use Rattle.tag_types.specs.declared.map_state.MapState.TheVariants as states
-use Rattle.tag_store.specs.Mapped.{state_of, tags_of_file}
+use Rattle.tag_store.specs.Mapped.{tags_of_file}
 use Rattle.tag_store.specs.MappedLaws.{Contains-tags}
 use Rattle.library_machine.specs.Records.{Records, Fits}
 use Rattle.library_machine.specs.Tagging.{file_mappings, texts_with}

@@ -1,5 +1,5 @@
 use Rattle.std.proofs.Common.{rules}
-use Rattle.tag_store.specs.NumberingLaws.{number_is, unnumbered_next}
+use Rattle.tag_store.specs.NumberingLaws.{unnumbered_next}
 use Rattle.library_tables.proofs.tables.Tables.numbered.Goals as goal
 
 pub returns-in-None : goal.returns-in-None

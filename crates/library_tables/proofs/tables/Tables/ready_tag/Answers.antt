@@ -1,4 +1,4 @@
-use Rattle.std.proofs.Common.{◌≡◌, ◌≤◌, ◌<◌, false, length, rules, sym, ap, ◌∙◌}
+use Rattle.std.proofs.Common.{◌≡◌, ◌<◌, false, length, rules}
 use Rattle.tag_types.specs.declared.limits.TheConstants.{MAX_TAGS}
 use Rattle.tag_store.specs.Numbering.{is_tag}
 use Rattle.library_tables.proofs.Mapping.{known_tag, room_for_new}
