@@ -1,11 +1,13 @@
 #!/usr/bin/env python3
 """Times a search of the proved metric tree beside the same tree in C and a plain scan.
 
-The words are random, and the tree is built. A program is made in a repository of its own, in a folder
+The words are random, and the tree is built. Then as many words come as are named, in an unlucky order, in which
+each leads all later ones into its inner part: the nodes that searches read are counted as the words came, once
+the lowest branch that insertions told is built anew, and once the tree is built whole. A program is made in a repository of its own, in a folder
 that is deleted in the end, from copies of the crates; `rt` proves and builds it. Each program runs some
 times in turn, and the least processor time of each figure counts.
 
-    bench/tree/run.py [WORDS [SEARCHES]]
+    bench/tree/run.py [WORDS [SEARCHES [UNLUCKY]]]
 """
 import pathlib
 import shutil
@@ -24,7 +26,7 @@ MAIN = r"""//! Times searches in a tree of words that was built.
 
 ghost use Rattle.std.specs.Prelude.{◌≡◌, ◌≢◌, ◌<◌, All, IsTrue, length};
 
-use media_types::{Hash64, HashNo, NoMemory, Steps};
+use media_types::{Hash64, HashNo, NoMemory, Steps, distance};
 use std::alloc::Global;
 use std::io;
 use std::marker::Brand;
@@ -35,6 +37,7 @@ use vp_tree::Tree;
 
 const WORDS: u64 = @WORDS@;
 const SEARCHES: u64 = @SEARCHES@;
+const UNLUCKY: u64 = @UNLUCKY@;
 
 fn word_of(seed: u64) -> Hash64 {
     let mut z = seed.wrapping_mul(0x9e37_79b9_7f4a_7c15);
@@ -82,6 +85,103 @@ fn search_all<L: Ledger>(tree: &Tree, within: u32, steps: &mut Steps<L>) -> Resu
     Ok(found)
 }
 
+// Words that differ in one bit from one to the next, each with the one that differs in all bits behind it.
+fn unlucky_word(number: u64) -> Hash64 {
+    let half = number / 2;
+    let near = half ^ (half / 2);
+    Hash64(if number % 2 == 0 { near } else { !near })
+}
+
+// The lowest branch that is to be built anew.
+fn insert_unlucky<L: Ledger>(tree: &mut Tree, steps: &mut Steps<L>) -> Result<HashNo, NoMemory> {
+    let mut lowest = HashNo(u32::MAX);
+    for number in 0..UNLUCKY {
+        let word = unlucky_word(number);
+        if tree.len() < 4_000_000 && is_new(tree, word, steps) {
+            let plan = tree.plan_insert(word)?;
+            let (_number, branch) = tree.commit_insert(plan, steps);
+            lowest = HashNo(lowest.0.min(branch.unwrap_or(lowest).0));
+        }
+    }
+    Ok(lowest)
+}
+
+fn build_at<L: Ledger>(tree: &mut Tree, top: HashNo, steps: &mut Steps<L>) -> Result<(), NoMemory> {
+    if top.0 < tree.len() {
+        let plan = tree.plan_build(top, steps)?;
+        tree.commit_build(plan);
+    }
+    Ok(())
+}
+
+// The nodes that a search reads.
+fn count_reads<L: Ledger>(
+    tree: &Tree,
+    alloc: Global,
+    query: Hash64,
+    within: u64,
+    steps: &mut Steps<L>,
+) -> Result<u64, NoMemory>
+    requires { within < 65 }
+{
+    let mut reads = 0u64;
+    let mut stack = Vec::new(alloc);
+    stack.push(HashNo(0))?;
+    for _ in 0..tree.len() {
+        let Some(at) = stack.pop() else {
+            return Ok(reads);
+        };
+        if at.0 >= tree.len() {
+            return Ok(reads);
+        }
+        let node = tree.node(at, steps);
+        reads = reads.wrapping_add(1);
+        let away = u64::from(distance(query, node.word));
+        if let Some(radius) = node.radius {
+            let radius = u64::from(radius);
+            if away <= radius + within && let Some(inner) = node.inner {
+                stack.push(inner)?;
+            }
+            if away + within > radius && let Some(outer) = node.outer {
+                stack.push(outer)?;
+            }
+        }
+    }
+    Ok(reads)
+}
+
+fn count_all<L: Ledger>(
+    tree: &Tree,
+    alloc: Global,
+    within: u64,
+    steps: &mut Steps<L>,
+) -> Result<u64, NoMemory>
+    requires { within < 65 }
+{
+    let mut reads = 0u64;
+    for number in 0..SEARCHES {
+        let query = unlucky_word(number.wrapping_mul(UNLUCKY / SEARCHES));
+        reads = reads.wrapping_add(count_reads(tree, alloc, query, within, steps)?);
+    }
+    Ok(reads / SEARCHES)
+}
+
+fn unlucky<L: Ledger>(
+    rt: &impl Print,
+    alloc: Global,
+    steps: &mut Steps<L>,
+) -> io::Result<()> {
+    let mut tree = Tree::new(alloc);
+    let lowest = insert_unlucky(&mut tree, steps).unwrap_or(HashNo(0));
+    let placed = count_all(&tree, alloc, 4, steps).unwrap_or(0);
+    let anew = build_at(&mut tree, lowest, steps).is_ok();
+    let rebuilt = count_all(&tree, alloc, 4, steps).unwrap_or(0);
+    let whole = build_at(&mut tree, HashNo(0), steps).is_ok();
+    let built = count_all(&tree, alloc, 4, steps).unwrap_or(0);
+    println!(rt; "unlucky {placed} {rebuilt} {built} {anew} {whole}")?;
+    Ok(())
+}
+
 fn run<L: Ledger>(
     rt: &(impl Print + CpuClock + Threads),
     alloc: Global,
@@ -104,7 +204,7 @@ fn run<L: Ledger>(
         let end = rt.process_cpu_time()?.as_nanos();
         println!(rt; "search {within} {} {found}", end.saturating_sub(start) / u128::from(SEARCHES))?;
     }
-    Ok(())
+    unlucky(rt, alloc, &mut steps)
 }
 
 fn main(rt: HostRuntime) -> io::Result<()> {
@@ -138,7 +238,7 @@ def write(path, text):
     path.write_text(text)
 
 
-def build_tree(folder, words, searches):
+def build_tree(folder, words, searches, unlucky):
     """The program of the proved tree, or None with a line that says why not."""
     if not shutil.which("rt"):
         print("the proved tree is skipped: there is no rt")
@@ -146,7 +246,7 @@ def build_tree(folder, words, searches):
     for name in CRATES:
         shutil.copytree(TOP / "crates" / name, folder / "crates" / name, ignore=shutil.ignore_patterns("out", "must-fail"))
     crate = folder / "crates" / "tree_bench"
-    text = MAIN.replace("@WORDS@", str(words)).replace("@SEARCHES@", str(searches))
+    text = MAIN.replace("@WORDS@", str(words)).replace("@SEARCHES@", str(searches)).replace("@UNLUCKY@", str(unlucky))
     write(folder / "crates.txt", LINES)
     write(folder / "HANDLES", "Handles allowed: Threads.\n")
     write(crate / "src" / "main.rt", text.replace("@WITHIN@", ", ".join(map(str, WITHIN))))
@@ -176,7 +276,7 @@ def run(command):
     rows = {}
     for line in subprocess.run(command, check=True, capture_output=True, text=True).stdout.splitlines():
         word, *rest = line.split()
-        rows["build" if word == "build" else int(rest[0])] = rest
+        rows[int(rest[0]) if word == "search" else word] = rest
     return rows
 
 
@@ -187,9 +287,10 @@ def least(rows, key, place):
 def main():
     words = int(sys.argv[1]) if len(sys.argv) > 1 else 100000
     searches = int(sys.argv[2]) if len(sys.argv) > 2 else 200
+    unlucky = int(sys.argv[3]) if len(sys.argv) > 3 else 20000
     with tempfile.TemporaryDirectory() as name:
         folder = pathlib.Path(name)
-        tree, peer = build_tree(folder, words, searches), build_peer(folder)
+        tree, peer = build_tree(folder, words, searches, unlucky), build_peer(folder)
         trees, peers = [], []
         for _ in range(ROUNDS):
             if tree:
@@ -214,6 +315,10 @@ def main():
                 sys.exit(f"distance {within}: {trees[0][within][2]} words found, {peers[0][within][4]} in C")
             parts.append(f"{peers[0][within][4]} found by each")
         print("  ".join(parts))
+    if trees:
+        placed, rebuilt, built = map(int, trees[0]["unlucky"][:3])
+        print(f"{unlucky} words in an unlucky order, distance 4: {placed} nodes read as they came, {rebuilt} once the lowest "
+              f"branch that was told is built anew, {built} once the tree is built whole  rebuilt/built {rebuilt / built:.2f}")
 
 
 if __name__ == "__main__":

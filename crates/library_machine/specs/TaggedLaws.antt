@@ -87,14 +87,14 @@ there_after : (r : Records) (s t f : ℕ) (state : Option MapState) (tags : ℕ)
     → ((a b c : ℕ) → IsSome (state_of r.mappings a b c) → AreThere (length r.services) (length r.tags) (length r.files) a b c)
     → (a b c : ℕ) → IsSome (state_of (with_state r.mappings s t f state) a b c) → AreThere (length r.services) tags (length r.files) a b c
 there_after r s t f state tags ascend le tag service file there a b c is = elim (same_triple (a, b, c) (s, t, f)) [
-  inl same ↦ record {
+  | inl same ↦ record {
     service = rw (ap (λ (k : ℕ × ℕ × ℕ). k.0) same) service;
     tag = rw (ap (λ (k : ℕ × ℕ × ℕ). k.1) same) tag;
     file = rw (ap (λ (k : ℕ × ℕ × ℕ). k.2) same) file;
   }
   | inr other ↦
-    let at = there a b c (subst (λ (found : Option MapState). IsSome found) (state-others r.mappings s t f state (a, b, c) ascend other) is) in
-    record { service = at.service; tag = omega (arith, at.tag, le); file = at.file }
+      let at = there a b c (subst (λ (found : Option MapState). IsSome found) (state-others r.mappings s t f state (a, b, c) ascend other) is) in
+      record { service = at.service; tag = omega (arith, at.tag, le); file = at.file }
 ]
 
 -- so many tags, once one is mapped that has room or is there
@@ -198,9 +198,9 @@ so_before rows s t f None same =
     let counted = length-taken rows (s, t, f) in
     let n = ap length same in
     none_by (state_of rows s t f) (omega (arith, counted, n)) where
-  none_by : (state : Option MapState) → one_if state ≡ 0 → state ≡ None
-  none_by None is = refl
-  none_by (Some state) is = absurd (omega (arith, is))
+      none_by : (state : Option MapState) → one_if state ≡ 0 → state ≡ None
+      none_by None is = refl
+      none_by (Some state) is = absurd (omega (arith, is))
 
 other_by : (r : Records) (m : Mapping) (found : Option ℕ) → number_of m.tag r.tags ≡ found → is_mapped_so r m ≡ false → with_mapping r m ≢ r
 other_by r m None is fresh same =

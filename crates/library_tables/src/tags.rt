@@ -58,10 +58,7 @@ impl Tables {
         if count >= MAX_SERVICES as u8 {
             return Ok(Unmet::FullServices.into());
         }
-        Ok(Prepared::Ready(
-            TablesPlan::Service,
-            Answer::Service(ServiceNo(count)),
-        ))
+        Ok(Prepared::Ready(TablesPlan::Service, Answer::Service(ServiceNo(count))))
     }
 
     #[tactic(auto, unfolding(library_machine::specs::Changing::needs, library_machine::specs::Changing::is_idle, library_machine::specs::Changing::effect, library_machine::specs::Changing::answer_to))]
@@ -128,11 +125,7 @@ impl Tables {
         }
     }
 
-    fn plan_map(
-        &mut self,
-        mapping: &Mapping,
-        found: Option<MapState>,
-    ) -> Result<Prepared, NoMemory>
+    fn plan_map(&mut self, mapping: &Mapping, found: Option<MapState>) -> Result<Prepared, NoMemory>
         requires file { has_file (records_of self.old) mapping.now.file ≡ true }
         requires service { has_service (records_of self.old) mapping.now.service ≡ true }
         requires found { found ≡ mapped (records_of self.old) mapping.now.service mapping.now.tag mapping.now.file }

@@ -16,7 +16,7 @@ loop-tag-init g c =
 pub text-requires : goal.text-requires
 text-requires g c =
     let there = telling_there c.args.self.now c.args.service c.args.file c.args.steps.now c.loop-tag.steps c.loop-tag.told c.loop-tag.walk c.next.new.self c.in-Some.tag c.in-Some.state
-        c.loop-tag.invariant c.in-Some.ensures.taken in
+    c.loop-tag.invariant c.in-Some.ensures.taken in
     search rules
 
 pub loop-tag-preserved : goal.loop-tag-preserved
