@@ -17,6 +17,10 @@ const UNKNOWN_TAG: &str = "{\"error\":\"unknown_tag\"}\n";
 
 const TAG_0: &str = "{\"tag\":0,\"changed\":true}\n";
 
+const SERVICE_0: &str = "{\"service\":0}\n";
+
+const SERVICE_1: &str = "{\"service\":1}\n";
+
 const NOT_KEPT: &str = "{\"error\":\"not_kept\"}\n";
 
 const JOURNAL_FULL: &str = "{\"error\":\"journal_full\"}\n";
@@ -136,7 +140,7 @@ fn assert_all(rt: &(impl Threads + Abort), alloc: Global, cases: &[Case]) -> Res
     Ok(())
 }
 
-const REFUSED_CHANGES: [Case; 4] = [
+const REFUSED_CHANGES: [Case; 3] = [
     Case {
         lines: &[Line::Import(0), Line::Import(1), Line::Import(1)],
         failing_call: 3,
@@ -164,7 +168,15 @@ const REFUSED_CHANGES: [Case; 4] = [
         kept: 2,
         ..Case::PLAIN
     },
-    // A tag that is mapped so already wants no room.
+];
+
+#[test]
+fn a_change_that_is_not_kept_is_refused(rt: HostRuntime) -> Result<(), Fail> {
+    assert_all(&rt, rt.alloc(), &REFUSED_CHANGES)
+}
+
+// They want no room. A service opens with its own pairs alone.
+const IDLE_CHANGES: [Case; 2] = [
     Case {
         lines: &[
             Line::Import(0),
@@ -184,11 +196,24 @@ const REFUSED_CHANGES: [Case; 4] = [
         kept: 2,
         ..Case::PLAIN
     },
+    Case {
+        lines: &[
+            Line::ADD_SERVICE,
+            Line::Apply(0, &[1], &[0]),
+            Line::Apply(0, &[1], &[0]),
+            Line::Apply(1, &[1], &[1]),
+            Line::Apply(1, &[], &[1]),
+        ],
+        limit: 2,
+        replies: &[SERVICE_1, SERVICE_0, SERVICE_0, SERVICE_1, JOURNAL_FULL],
+        kept: 2,
+        ..Case::PLAIN
+    },
 ];
 
 #[test]
-fn a_change_that_is_not_kept_is_refused(rt: HostRuntime) -> Result<(), Fail> {
-    assert_all(&rt, rt.alloc(), &REFUSED_CHANGES)
+fn what_changes_nothing_is_not_kept(rt: HostRuntime) -> Result<(), Fail> {
+    assert_all(&rt, rt.alloc(), &IDLE_CHANGES)
 }
 
 // The calls are a start and three puts: the question at the end puts nothing.

@@ -171,7 +171,7 @@ impl RandomTags {
 
     fn add_service(&mut self) -> Result<(), AllocError> {
         if self.plain.services() == SERVICES {
-            return Ok(());
+            return self.ask_for_mappings();
         }
         let reply = self.plain.add_service()?;
         self.script.say(Line::ADD_SERVICE, &reply)
