@@ -162,9 +162,6 @@ placed-push rows places new row h few stands none this others = record {
         last s b false e z = let one = ap one e in omega (arith, count-push (stands_for s b) rows row, one, z)
 
 -- ---- one row less that stands
-stands-removed : (s b : ℕ) (row : RelationRow) → stands_for s b (removed row) ≡ false
-stands-removed s b row = refl
-
 pub count-removed : (p : RelationRow → Bool) → ((row : RelationRow) → p (removed row) ≡ false) → (n : ℕ) (rows : List RelationRow) → count_by p (removed_at n rows) ≤ count_by p rows
 count-removed p gone n [] = omega arith
 count-removed p gone zero (row ∷ rows) =
