@@ -1,18 +1,21 @@
 -- The line that a session keeps.
-use Rattle.std.proofs.Common.{◌≡◌, ◌↔◌, ℕ, suc, zero, ◌+◌, ◌-◌, ◌<◌, ◌≤◌, min, List, [], ◌∷◌, ◌++◌, length, take, Err, Option, Result, inl, inr, refl, sym, ◌∙◌, ap, arith}
+use Rattle.std.proofs.Common.{◌≡◌, ◌↔◌, ℕ, suc, zero, ◌+◌, ◌-◌, ◌<◌, ◌≤◌, min, List, [], ◌∷◌, ◌++◌, length, take, Ok, Err, Option, Result, inl, inr, refl, sym, ◌∙◌, ap, arith}
+use Rattle.std.specs.Result.{OnErr, OnOk}
 use Rattle.std.proofs.lemmas.Bool.{cases_lt}
 use Rattle.std.proofs.lemmas.List.{nil_from_length, length-take, take_all}
 use Rattle.media_base.specs.declared.refusal.Refusal.TheVariants as refusals
 use Rattle.media_base.specs.Replying.{Reply}
+use Rattle.media_base.specs.Transfer.{Gathered, Sends, Took, TookFront}
+use Rattle.media_base.specs.TransferLaws.{front_of_more, gathered_none, gathers_then}
 use Rattle.library_core.specs.Done.{Telling}
 use Rattle.command_text.specs.Reading.{line_command}
 use Rattle.command_text.specs.declared.request.TheConstants.{MAX_LINE}
-use Rattle.media_tool.specs.Feeding.{Fed, FedKept, LineSent, Stopped}
+use Rattle.media_tool.specs.Feeding.{Fed, FedKept, LineSent, Stopped, TookBehind}
 use Rattle.media_tool.specs.Kept.{kept_of, Keeps}
 use Rattle.media_tool.specs.Lines.{HasNoFeed}
-use Rattle.media_tool.specs.Run.{LineAnswered, as_command, as_refused, as_no_memory, SessionState}
+use Rattle.media_tool.specs.Run.{LineAnswered, as_command, as_refused, as_no_memory, SessionState, text_of}
 use Rattle.media_tool.proofs.Cuts.{AllByRecursion-append}
-use Rattle.media_tool.proofs.Feeds.{FedSoFar, fed_kept, so_far_none, so_far_more, so_far_all, so_far_stopped}
+use Rattle.media_tool.proofs.Feeds.{FedSoFar, done, failing, fed_as, fed_cut_off, fed_kept, front_from_none, sends_from_none, so_far_none, so_far_more, so_far_all, so_far_stopped}
 
 -- ---- fronts
 
@@ -93,10 +96,10 @@ same_reading law line = elim (cases_lt (MAX_LINE + 1) (length line)) [
 -- ---- within a piece
 
 -- A front of the piece was fed, this is the rest of it, and these bytes are kept of the line in between.
-pub record KeptSoFar {K : Type 0} (tells : Telling K) (r : SessionState K) (line piece : List ℕ) (m : SessionState K) (kept rest : List ℕ) (t u : Option (List ℕ)) : Type 0 where
+pub record KeptSoFar {K : Type 0} (tells : Telling K) (r : SessionState K) (line piece : List ℕ) (m : SessionState K) (kept rest : List ℕ) (Went : List ℕ → Type 0) : Type 0 where
   pub mid : List ℕ
   pub keeps : Keeps kept mid
-  pub so_far : FedSoFar tells r line piece m mid rest t u
+  pub so_far : FedSoFar tells r line piece m mid rest Went
 
 module _ {K : Type 0} {tells : Telling K} where
   same_answer : (r m : SessionState K) (a b : List ℕ) (reply : Reply) → line_command a ≡ line_command b → LineAnswered tells r a reply m → LineAnswered tells r b reply m
@@ -104,33 +107,67 @@ module _ {K : Type 0} {tells : Telling K} where
   same_answer r m a b reply same (as_refused why read is unchanged) = as_refused why (sym same ∙ read) is unchanged
   same_answer r m a b reply same (as_no_memory is unchanged) = as_no_memory is unchanged
 
-  pub kept_sent : {T E : Type 0} → RefusesLong → (r m : SessionState K) (kept line : List ℕ) (t u : Option (List ℕ)) (result : Result T E) → LineSent tells r kept m t u result → kept ≡ kept_of line → LineSent tells r line m t u result
-  kept_sent law r m kept line t u result sent front = record {
+  pub kept_sent : {T E : Type 0} → RefusesLong → (r m : SessionState K) (kept line : List ℕ) (P Q : List ℕ → Type 0) (result : Result T E) → LineSent tells r kept m P Q result → kept ≡ kept_of line → LineSent tells r line m P Q result
+  kept_sent law r m kept line P Q result sent front = record {
     reply = sent.reply;
     answered = same_answer r m kept line sent.reply (ap line_command front ∙ same_reading law line) sent.answered;
     sends = sent.sends;
   }
 
-  pub kept_so_far_none : (r : SessionState K) (kept line piece : List ℕ) (t : Option (List ℕ)) → Keeps kept line → KeptSoFar tells r line piece r kept piece t t
-  kept_so_far_none r kept line piece t keeps = record { mid = line; keeps = keeps; so_far = so_far_none r line piece t keeps.unfinished }
+  pub kept_so_far_none : (r : SessionState K) (kept line piece : List ℕ) (P : List ℕ → Type 0) → P [] → Keeps kept line → KeptSoFar tells r line piece r kept piece P
+  kept_so_far_none r kept line piece P none keeps = record { mid = line; keeps = keeps; so_far = so_far_none r line piece P none keeps.unfinished }
 
-  -- the line was finished and answered
-  pub kept_so_far_more : (r m s : SessionState K) (line piece kept front rest after last : List ℕ) (t u v : Option (List ℕ)) → KeptSoFar tells r line piece m kept rest t u → rest ≡ front ++ after → last ≡ []
-      → ((mid : List ℕ) → Keeps kept mid → Fed tells m mid front s [] u v) → KeptSoFar tells r line piece s last after t v
-  kept_so_far_more r m s line piece kept front rest after last t u v p is none q = record {
-    mid = [];
-    keeps = keeps_nothing last none;
-    so_far = so_far_more r m s line piece p.mid front rest after [] t u v p.so_far is (q p.mid p.keeps);
-  }
+  module _ (t u v : Option (List ℕ)) (first held now : List ℕ) where
+    -- the line was finished and answered
+    pub kept_so_far_more : (r m s : SessionState K) (line piece kept front rest after last : List ℕ) → KeptSoFar tells r line piece m kept rest (Gathered t first u held) → rest ≡ front ++ after → last ≡ []
+        → ((mid : List ℕ) → Keeps kept mid → Fed tells m mid front s [] (Gathered u held v now)) → KeptSoFar tells r line piece s last after (Gathered t first v now)
+    kept_so_far_more r m s line piece kept front rest after last p is none q = record {
+      mid = [];
+      keeps = keeps_nothing last none;
+      so_far = so_far_more r m s line piece p.mid front rest after [] (Gathered t first u held) (Gathered u held v now) (Gathered t first v now)
+          (λ a b one then. gathers_then t u v first held now a b (done tt) one then) p.so_far is (q p.mid p.keeps);
+    }
+
+    pub kept_so_far_stopped : (r m s : SessionState K) (line piece kept rest : List ℕ) → KeptSoFar tells r line piece m kept rest (Gathered t first u held) → ((mid : List ℕ) → Keeps kept mid → Stopped tells m mid rest s (TookBehind u held v))
+        → Stopped tells r line piece s (TookBehind t first v)
+    kept_so_far_stopped r m s line piece kept rest p q = so_far_stopped r m s line piece p.mid rest (Gathered t first u held) (TookBehind u held v) (TookBehind t first v)
+        (λ a b one then. gathers_then t u v first held [] a b failing one then) p.so_far (q p.mid p.keeps)
 
   -- the rest has no line feed, and was kept
-  pub kept_so_far_all : (r m s : SessionState K) (line piece kept rest last : List ℕ) (t u : Option (List ℕ)) → KeptSoFar tells r line piece m kept rest t u → HasNoFeed rest → s ≡ m → last ≡ kept_of (kept ++ rest)
-      → FedKept tells r line piece s last t u
-  kept_so_far_all r m s line piece kept rest last t u p no_feed same is = record {
+  pub kept_so_far_all : (r m s : SessionState K) (line piece kept rest last : List ℕ) (t u : Option (List ℕ)) (first held : List ℕ) → KeptSoFar tells r line piece m kept rest (Gathered t first u held) → HasNoFeed rest → s ≡ m → last ≡ kept_of (kept ++ rest)
+      → FedKept tells r line piece s last (Gathered t first u held)
+  kept_so_far_all r m s line piece kept rest last t u first held p no_feed same is = record {
     rest = p.mid ++ rest;
     keeps = keeps_more kept last p.mid rest p.keeps no_feed is;
-    fed = so_far_all r m s line piece p.mid rest (p.mid ++ rest) t u u p.so_far (fed_kept m s p.mid rest (p.mid ++ rest) u p.keeps.unfinished no_feed same refl);
+    fed = so_far_all r m s line piece p.mid rest (p.mid ++ rest) (Gathered t first u held) (Gathered u held u held) (Gathered t first u held)
+        (λ a b one then. gathers_then t u u first held held a b (done tt) one then) p.so_far
+        (fed_kept m s p.mid rest (p.mid ++ rest) (Gathered u held u held) (gathered_none u held) p.keeps.unfinished no_feed same refl);
   }
 
-  pub kept_so_far_stopped : (r m s : SessionState K) (line piece kept rest : List ℕ) (t u v : Option (List ℕ)) → KeptSoFar tells r line piece m kept rest t u → ((mid : List ℕ) → Keeps kept mid → Stopped tells m mid rest s u v) → Stopped tells r line piece s t v
-  kept_so_far_stopped r m s line piece kept rest t u v p q = so_far_stopped r m s line piece p.mid rest t u v p.so_far (q p.mid p.keeps)
+  -- ---- a piece, when nothing was held before it
+
+  pub stopped_from_none : (r m : SessionState K) (line piece : List ℕ) (t u : Option (List ℕ)) (held : List ℕ) → held ≡ [] → Stopped tells r line piece m (TookBehind t held u) → Stopped tells r line piece m (TookFront t u)
+  stopped_from_none r m line piece t u held none p = record {
+    lines = p.lines;
+    rest = p.rest;
+    replies = p.replies;
+    cut = p.cut;
+    run = p.run;
+    went = front_from_none t u held none (text_of p.replies) p.went;
+  }
+
+  -- what was gathered is written, or a front of it
+  pub feed_written : {T E : Type 0} (r m : SessionState K) (before piece kept : List ℕ) (t u v : Option (List ℕ)) (first held : List ℕ) (result : Result T E) → first ≡ []
+      → ((line : List ℕ) → Keeps before line → FedKept tells r line piece m kept (Gathered t first u held)) → Sends u v held result
+      → OnOk result ((line : List ℕ) → Keeps before line → FedKept tells r line piece m kept (Took t v)) × OnErr result ((line : List ℕ) → Keeps before line → Stopped tells r line piece m (TookFront t v))
+  feed_written r m before piece kept t u v first held (Ok value) none fed sends = (λ line keeps.
+      let p = fed line keeps in
+      record {
+        rest = p.rest;
+        keeps = p.keeps;
+        fed = fed_as r m line piece p.rest (Gathered t first u held) (Took t v) (λ text gathered. sends_from_none t u v first held text (done tt) none gathered sends) p.fed;
+      }, tt)
+  feed_written r m before piece kept t u v first held (Err error) none fed sends = (tt, λ line keeps.
+      let p = fed line keeps in
+      fed_cut_off r m line piece p.rest (Gathered t first u held) (TookFront t v)
+      (λ a b gathered. front_of_more t v a b (sends_from_none t u v first held a failing none gathered sends)) p.fed)

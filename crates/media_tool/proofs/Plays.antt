@@ -3,8 +3,8 @@ use Rattle.std.proofs.Common.{◌≡◌, ◌⊎◌, ℕ, ◌+◌, ◌-◌, ◌<�
 use Rattle.std.specs.Prelude.{◌↔◌}
 use Rattle.std.proofs.lemmas.List.{length-append, length-take-le, append-nil}
 use Rattle.media_base.specs.Keeping.{Readings}
-use Rattle.media_base.specs.Transfer.{Gave, GaveFront}
-use Rattle.media_base.specs.TransferLaws.{gave_none, gave_more}
+use Rattle.media_base.specs.Transfer.{Gave, GaveFront, Took, TookFront}
+use Rattle.media_base.specs.TransferLaws.{gave_none, gave_more, took_none, took_more, front_more}
 use Rattle.media_base.specs.declared.status.Status.{Status}
 use Rattle.media_base.specs.declared.status.Status.TheVariants as statuses
 use Rattle.library_machine.specs.Records.{no_records}
@@ -26,7 +26,7 @@ pub record PlayedSoFar {K : Type 0} (tells : Telling K) (o : SessionState K) (ro
   pub given : List ℕ
   pub gave : Gave left now given
   pub counted : length given + room ≡ MAX_INPUT
-  pub fed : FedKept tells o [] given m kept t u
+  pub fed : FedKept tells o [] given m kept (Took t u)
 
 -- a status of a session that wasn't too long, over as many bytes as it may take
 within_limit : (status : Status) (given : List ℕ) → (status ≡ statuses.InputTooLong → ⊥) → length given ≤ MAX_INPUT → (status ≡ statuses.InputTooLong) ↔ (MAX_INPUT < length given)
@@ -55,20 +55,20 @@ module _ {K : Type 0} {tells : Telling K} where
     given = [];
     gave = gave_none left;
     counted = refl;
-    fed = record { rest = []; keeps = keeps_nothing kept none; fed = fed_nothing o taken };
+    fed = record { rest = []; keeps = keeps_nothing kept none; fed = fed_nothing o (Took taken taken) (took_none taken) };
   }
 
   -- what was fed, and then one more piece, whatever line these bytes were kept of
-  fed_piece : (o : SessionState K) (given piece kept last : List ℕ) (m s : SessionState K) (t u v : Option (List ℕ)) → FedKept tells o [] given m kept t u → ((line : List ℕ) → Keeps kept line → FedKept tells m line piece s last u v) → FedKept tells o [] (given ++ piece) s last t v
+  fed_piece : (o : SessionState K) (given piece kept last : List ℕ) (m s : SessionState K) (t u v : Option (List ℕ)) → FedKept tells o [] given m kept (Took t u) → ((line : List ℕ) → Keeps kept line → FedKept tells m line piece s last (Took u v)) → FedKept tells o [] (given ++ piece) s last (Took t v)
   fed_piece o given piece kept last m s t u v p q =
       let next = q p.rest p.keeps in
-      record { rest = next.rest; keeps = next.keeps; fed = fed_more o m s [] given p.rest piece next.rest t u v p.fed next.fed }
+      record { rest = next.rest; keeps = next.keeps; fed = fed_more o m s [] given p.rest piece next.rest (Took t u) (Took u v) (Took t v) (took_more t u v) p.fed next.fed }
 
-  stopped_piece : (o : SessionState K) (given piece kept : List ℕ) (m s : SessionState K) (t u v : Option (List ℕ)) → FedKept tells o [] given m kept t u → ((line : List ℕ) → Keeps kept line → Stopped tells m line piece s u v) → Stopped tells o [] (given ++ piece) s t v
-  stopped_piece o given piece kept m s t u v p q = stopped_after o m s [] given p.rest piece t u v p.fed (q p.rest p.keeps)
+  stopped_piece : (o : SessionState K) (given piece kept : List ℕ) (m s : SessionState K) (t u v : Option (List ℕ)) → FedKept tells o [] given m kept (Took t u) → ((line : List ℕ) → Keeps kept line → Stopped tells m line piece s (TookFront u v)) → Stopped tells o [] (given ++ piece) s (TookFront t v)
+  stopped_piece o given piece kept m s t u v p q = stopped_after o m s [] given p.rest piece (Took t u) (TookFront u v) (TookFront t v) (front_more t u v) p.fed (q p.rest p.keeps)
 
   pub so_far_piece : (o : SessionState K) (room count : ℕ) (m s : SessionState K) (kept last chunk : List ℕ) (left now next t u v : Option (List ℕ)) → count ≤ room
-      → PlayedSoFar tells o room m kept left now t u → GaveFront now next chunk count → ((line : List ℕ) → Keeps kept line → FedKept tells m line (take count chunk) s last u v) → PlayedSoFar tells o (room - count) s last left next t v
+      → PlayedSoFar tells o room m kept left now t u → GaveFront now next chunk count → ((line : List ℕ) → Keeps kept line → FedKept tells m line (take count chunk) s last (Took u v)) → PlayedSoFar tells o (room - count) s last left next t v
   so_far_piece o room count m s kept last chunk left now next t u v within p read q = record {
     given = p.given ++ take count chunk;
     gave = gave_more left now next p.given (take count chunk) p.gave read.gave;
@@ -78,7 +78,7 @@ module _ {K : Type 0} {tells : Telling K} where
 
   -- the input ended, and what was left was answered or not
   pub plays_finish : (status : Status) (o : SessionState K) (room : ℕ) (m s : SessionState K) (kept chunk : List ℕ) (left now next t u v : Option (List ℕ)) → PlayedSoFar tells o room m kept left now t u → GaveFront now next chunk 0
-      → (status ≡ statuses.Done) ⊎ (status ≡ statuses.WriteFault) → ((given : List ℕ) (taken : Option (List ℕ)) → FedKept tells o [] given m kept taken u → Played tells status o s given taken v) → PlaysFrom tells o s status left next t v
+      → (status ≡ statuses.Done) ⊎ (status ≡ statuses.WriteFault) → ((given : List ℕ) (taken : Option (List ℕ)) → FedKept tells o [] given m kept (Took taken u) → Played tells status o s given taken v) → PlaysFrom tells o s status left next t v
   plays_finish status o room m s kept chunk left now next t u v p read either ends = record {
     given = p.given ++ [];
     gave = gave_more left now next p.given [] p.gave read.gave;
@@ -97,7 +97,7 @@ module _ {K : Type 0} {tells : Telling K} where
 
   -- it stopped in a piece
   pub plays_write_fault : (o : SessionState K) (room count : ℕ) (m s : SessionState K) (kept chunk : List ℕ) (left now next t u v : Option (List ℕ)) → count ≤ room → PlayedSoFar tells o room m kept left now t u → GaveFront now next chunk count
-      → ((line : List ℕ) → Keeps kept line → Stopped tells m line (take count chunk) s u v) → PlaysFrom tells o s statuses.WriteFault left next t v
+      → ((line : List ℕ) → Keeps kept line → Stopped tells m line (take count chunk) s (TookFront u v)) → PlaysFrom tells o s statuses.WriteFault left next t v
   plays_write_fault o room count m s kept chunk left now next t u v within p read stopped = record {
     given = p.given ++ take count chunk;
     gave = gave_more left now next p.given (take count chunk) p.gave read.gave;

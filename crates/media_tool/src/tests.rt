@@ -185,22 +185,20 @@ fn a_read_fault_ends_a_session(rt: HostRuntime) -> Result<(), Fail> {
     assert_four_lines(&rt, alloc, second, Status::ReadFault, 4)
 }
 
-// A reply is one write, and each write fails in turn: the replies before it are written whole.
+// The replies to the lines of one read are one write, and where it fails none is written.
 #[test]
 fn a_write_fault_ends_a_session(rt: HostRuntime) -> Result<(), Fail> {
     let alloc = rt.alloc();
-    for replies in 0..4 {
-        let manner = Manner {
-            failing_write: replies as u64 + 1,
-            ..Manner::PLAIN
-        };
-        assert_four_lines(&rt, alloc, manner, Status::WriteFault, replies)?;
-    }
-    let fifth = Manner {
-        failing_write: 5,
+    let first = Manner {
+        failing_write: 1,
         ..Manner::PLAIN
     };
-    assert_four_lines(&rt, alloc, fifth, Status::Done, 4)
+    assert_four_lines(&rt, alloc, first, Status::WriteFault, 0)?;
+    let second = Manner {
+        failing_write: 2,
+        ..Manner::PLAIN
+    };
+    assert_four_lines(&rt, alloc, second, Status::Done, 4)
 }
 
 // A session ended with a write fault, and so many bytes of the text before it.

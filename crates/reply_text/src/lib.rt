@@ -7,7 +7,7 @@ mod out;
 mod part;
 mod writing;
 
-pub use writing::{reply_len, write_reply, write_reply_line};
+pub use writing::{put_reply_line, reply_len, write_reply};
 
 #[cfg(test)]
 mod tests;

@@ -1,6 +1,6 @@
 use crate::out::Count;
 use crate::part::{Field, Part, put_object};
-use crate::{reply_len, write_reply, write_reply_line};
+use crate::{put_reply_line, reply_len, write_reply};
 use media_base::{
     Answer, BytesSink, CallList, Code, Decision, DecisionNo, FieldName, FileList, FileMappings,
     FileNo, FileRelations, Gather, ImportStatus, Imported, Mapped, PairList, QueueLengths, Refusal,
@@ -31,7 +31,9 @@ fn assert_written(rt: &impl Abort, alloc: Global, reply: &Reply, want: &str) -> 
 
 fn assert_line(rt: &impl Abort, alloc: Global, reply: &Reply, want: &str) -> Result<(), Fail> {
     let mut sink = sink_failing_at(alloc, 2)?;
-    write_reply_line(reply, &mut sink)?;
+    let mut gather = Gather::new();
+    put_reply_line(reply, &mut gather, &mut sink)?;
+    gather.flush(&mut sink)?;
     assert_eq!(rt;
         sink.bytes().as_slice().strip_suffix(b"\n"),
         Some(want.as_bytes())

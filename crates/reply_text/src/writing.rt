@@ -1,7 +1,7 @@
 ghost use Rattle.std.specs.Prelude.{◌≡◌, ◌-◌, ◌^◌, min, length};
 ghost use Rattle.media_types.specs.Cause.{HasCause, failed};
 ghost use Rattle.media_base.specs.Names as names;
-ghost use Rattle.media_base.specs.Transfer.{Sends};
+ghost use Rattle.media_base.specs.Transfer.{Gathers, Sends};
 ghost use Rattle.reply_text.specs.ReplyText.{reply_text, reply_line};
 
 use crate::out::{Count, Out};
@@ -19,14 +19,16 @@ pub fn write_reply<W: Sink>(reply: &Reply, sink: &mut W) -> Result<(), Failed>
     gather.flush(sink)
 }
 
-/// The same, and a line feed behind it, in one write where the line has up to 4,096 bytes.
-pub fn write_reply_line<W: Sink>(reply: &Reply, sink: &mut W) -> Result<(), Failed>
+/// Puts the reply's text and a line feed behind what is gathered. It takes no memory.
+pub fn put_reply_line<W: Sink>(
+    reply: &Reply,
+    gather: &mut Gather,
+    sink: &mut W,
+) -> Result<(), Failed>
     ensures cause { HasCause (W.faults sink.old) (W.faults sink.new) failed result }
-    ensures sends { Sends (W.taken sink.old) (W.taken sink.new) (reply_line reply.now) result }
+    ensures gathers { Gathers (W.taken sink.old) gather.old (W.taken sink.new) gather.new (reply_line reply.now) result }
 {
-    let mut gather = Gather::new();
-    put_line(reply, &mut gather, sink)?;
-    gather.flush(sink)
+    put_line(reply, gather, sink)
 }
 
 /// How many bytes the reply's text has, or the greatest `u64` where it has more. It takes no memory.

@@ -77,6 +77,8 @@ fn ended_over(
 #[derive(Clone, Copy)]
 struct Case {
     lines: &'static [Line],
+    /// How many bytes a read gives at most.
+    piece: usize,
     /// The call of the keeper that fails, if this isn't 0.
     failing_call: u64,
     /// How many changes the keeper has room for.
@@ -92,6 +94,7 @@ impl Case {
     /// The four lines, and no call fails.
     const PLAIN: Case = Case {
         lines: &FOUR_LINES,
+        piece: 65_536,
         failing_call: 0,
         limit: 100,
         failing_write: 0,
@@ -119,7 +122,8 @@ impl Case {
         keeper: MemoryKeeper,
     ) -> Result<MemoryKeeper, Fail> {
         let input = input_of(alloc, self.lines)?;
-        let ended = session_over(rt, alloc, &input, keeper, self.failing_write)?;
+        let mut source = source_of(rt, alloc, &input, self.piece, 0)?;
+        let ended = ended_over(rt, alloc, &mut source, keeper, self.failing_write)?;
         self.assert_ended(rt, alloc, &ended)?;
         Ok(ended.keeper)
     }
@@ -259,8 +263,9 @@ fn each_call_of_the_keeper_fails_in_turn(rt: HostRuntime) -> Result<(), Fail> {
     assert_all(&rt, rt.alloc(), &FAILING_CALLS)
 }
 
-const FAILING_WRITES: [Case; 4] = [
+const FAILING_WRITES: [Case; 5] = [
     Case {
+        piece: 1,
         failing_write: 1,
         status: Status::WriteFault,
         replies: &[],
@@ -268,6 +273,7 @@ const FAILING_WRITES: [Case; 4] = [
         ..Case::PLAIN
     },
     Case {
+        piece: 1,
         failing_write: 2,
         status: Status::WriteFault,
         replies: &[FILE_0],
@@ -275,20 +281,28 @@ const FAILING_WRITES: [Case; 4] = [
         ..Case::PLAIN
     },
     Case {
+        piece: 1,
         failing_write: 3,
         status: Status::WriteFault,
         replies: &[FILE_0, FILE_1],
         ..Case::PLAIN
     },
     Case {
+        piece: 1,
         failing_write: 4,
         status: Status::WriteFault,
         replies: &[FILE_0, FILE_1, DECISION_0],
         ..Case::PLAIN
     },
+    Case {
+        failing_write: 1,
+        status: Status::WriteFault,
+        replies: &[],
+        ..Case::PLAIN
+    },
 ];
 
-// A command whose reply isn't written has been done, and no line behind it.
+// The lines of a read are done before their replies are written, and no line behind them.
 #[test]
 fn what_was_done_before_a_write_fault_is_kept(rt: HostRuntime) -> Result<(), Fail> {
     assert_all(&rt, rt.alloc(), &FAILING_WRITES)

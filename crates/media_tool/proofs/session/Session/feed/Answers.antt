@@ -1,40 +1,21 @@
-use Rattle.std.proofs.Common.{List, ℕ, refl, sym, subst, arith}
-use Rattle.media_tool.specs.Feeding.{Stopped}
-use Rattle.media_tool.specs.Lines.{with_feed}
-use Rattle.media_tool.specs.Run.{state_of, telling}
+use Rattle.media_tool.specs.Run.{state_of}
 use Rattle.media_tool.proofs.Feeds.{on_err}
-use Rattle.media_tool.proofs.Kept.{kept_so_far_none, kept_so_far_more, kept_so_far_all, kept_so_far_stopped}
+use Rattle.media_tool.proofs.Kept.{feed_written, stopped_from_none}
 use Rattle.media_tool.proofs.session.Session.feed.Goals as goal
 
-pub loop-line-init : goal.loop-line-init
-loop-line-init g c = record {
-  later = omega arith;
-  so_far = λ line keeps. kept_so_far_none (state_of c.args.self.now.library) c.args.self.now.line line c.args.piece.now (g.W.Sink.taken c.args.sink.now) keeps;
-}
-
-pub loop-line-preserved : goal.loop-line-preserved
-loop-line-preserved g c =
-    let taken = g.W.Sink.taken in
-    let old = c.args.self.now in
-    let mid = c.loop-line.self in
-    let new = c.end_line.new.self in
-    record {
-      later = omega (arith, c.loop-line.invariant.later, c.end_line.ensures.cause.later);
-      so_far = λ line keeps. kept_so_far_more (state_of old.library) (state_of mid.library) (state_of new.library) line c.args.piece.now mid.line (with_feed c.in-Some.line.now) c.loop-line.rest.now c.in-Some.after.now new.line
-          (taken c.args.sink.now) (taken c.loop-line.sink) (taken c.end_line.new.sink) (c.loop-line.invariant.so_far line keeps) c.in-Some.ensures.whole c.in_ok-end_line.ensures.empty c.in_ok-end_line.ensures.fed;
-    }
-
-pub returns-in_err-end_line-clause-stopped : goal.returns-in_err-end_line-clause-stopped
-returns-in_err-end_line-clause-stopped g c = on_err c.from_residual.result (λ line keeps.
-    let taken = g.W.Sink.taken in
-    let old = c.args.self.now in
-    let mid = c.loop-line.self in
-    kept_so_far_stopped (state_of old.library) (state_of mid.library) (state_of c.end_line.new.self.library) line c.args.piece.now mid.line c.loop-line.rest.now (taken c.args.sink.now) (taken c.loop-line.sink) (taken c.end_line.new.sink) (c.loop-line.invariant.so_far line keeps)
-    (λ between kept. subst (λ (rest : List ℕ). Stopped (telling g.K.Keeper.kept g.K.Keeper.alien g.K.Keeper.faults g.K.Keeper.used g.K.Keeper.units g.K.Keeper.limit) (state_of mid.library) between rest (state_of c.end_line.new.self.library) (taken c.loop-line.sink) (taken c.end_line.new.sink)) (sym c.in-Some.ensures.whole) (c.in_err-end_line.ensures.stopped between c.in-Some.after.now kept)))
+pub returns-in_err-answer_lines-clause-stopped : goal.returns-in_err-answer_lines-clause-stopped
+returns-in_err-answer_lines-clause-stopped g c = on_err c.from_residual.result (λ line keeps.
+    stopped_from_none (state_of c.args.self.now.library) (state_of c.answer_lines.new.self.library) line c.args.piece.now (g.W.Sink.taken c.args.sink.now) (g.W.Sink.taken c.answer_lines.new.sink) _ c.new-gather.ensures
+    (c.in_err-answer_lines.ensures.stopped line keeps))
 
 pub returns-clause-fed : goal.returns-clause-fed
-returns-clause-fed g c = λ line keeps.
+returns-clause-fed g c =
     let taken = g.W.Sink.taken in
-    let old = c.args.self.now in
-    let mid = c.loop-line.self in
-    kept_so_far_all (state_of old.library) (state_of mid.library) (state_of mid.library) line c.args.piece.now mid.line c.loop-line.rest.now c.keep.new.self (taken c.args.sink.now) (taken c.loop-line.sink) (c.loop-line.invariant.so_far line keeps) c.in_default.ensures.none refl c.keep.ensures
+    (feed_written (state_of c.args.self.now.library) (state_of c.answer_lines.new.self.library) c.args.self.now.line c.args.piece.now c.answer_lines.new.self.line
+    (taken c.args.sink.now) (taken c.answer_lines.new.sink) (taken c.flush.new.sink) _ c.answer_lines.new.gather c.flush.result c.new-gather.ensures c.in_ok-answer_lines.ensures.fed c.flush.ensures.sends).0
+
+pub returns-clause-stopped : goal.returns-clause-stopped
+returns-clause-stopped g c =
+    let taken = g.W.Sink.taken in
+    (feed_written (state_of c.args.self.now.library) (state_of c.answer_lines.new.self.library) c.args.self.now.line c.args.piece.now c.answer_lines.new.self.line
+    (taken c.args.sink.now) (taken c.answer_lines.new.sink) (taken c.flush.new.sink) _ c.answer_lines.new.gather c.flush.result c.new-gather.ensures c.in_ok-answer_lines.ensures.fed c.flush.ensures.sends).1
