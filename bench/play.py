@@ -23,6 +23,7 @@ HERE = pathlib.Path(__file__).resolve().parent
 TOP = HERE.parent
 ROUNDS = 3
 SEARCHED = 20_000
+DELETED = 10
 TAGGED = 100_000
 MAPPED = 1_000_000
 TAGS = 10_000
@@ -85,9 +86,9 @@ def searches(count):
 
 
 def deletions(files):
-    """Every tenth file is deleted and comes back."""
+    """Every tenth file is deleted and comes back, and so again and again."""
     lines = []
-    for number in range(0, files, 10):
+    for number in list(range(0, files, 10)) * DELETED:
         lines.append('{"do":"delete","file":%d}\n{"do":"undelete","file":%d}\n' % (number, number))
     return "".join(lines)
 
@@ -178,7 +179,7 @@ def tell_steps(taken, names):
         "the same, and deletions that are taken back",
         "imports with hashes in clusters, and their search jobs",
     )
-    print("a deletion or its taking back takes %.0f us" % (deleting / (2 * (SEARCHED // 10)) * 1e6))
+    print("a deletion or its taking back takes %.0f us" % (deleting / (2 * DELETED * (SEARCHED // 10)) * 1e6))
     mapping = {name: more("the same, and their mappings", "files to be tagged", name) for name in names}
     for name, time_taken in mapping.items():
         print("a mapping takes %.2f us in %s" % (time_taken / MAPPED * 1e6, name))
@@ -209,7 +210,7 @@ def main():
             ),
             "the same, and deletions that are taken back": (
                 with_hashes(clustered_words(SEARCHED)) + searches(SEARCHED) + deletions(SEARCHED),
-                SEARCHED + SEARCHED // 1024 + 1 + 2 * (SEARCHED // 10),
+                SEARCHED + SEARCHED // 1024 + 1 + 2 * DELETED * (SEARCHED // 10),
             ),
             "files to be tagged": (imports(TAGGED), TAGGED),
             "the same, and their mappings": (imports(TAGGED) + mappings(TAGGED, MAPPED), TAGGED + MAPPED),
