@@ -26,6 +26,7 @@ SEARCHED = 20_000
 DELETED = 10
 TAGGED = 100_000
 MAPPED = 1_000_000
+MIXED = 50_000
 TAGS = 10_000
 REGISTRY = pathlib.Path("/usr/share/cargo/registry")
 
@@ -110,6 +111,22 @@ def mappings(files, count):
         lines.append(
             '{"do":"map","service":0,"tag":"series:tag %d","file":%d,"state":"current"}\n' % (tag, number % files)
         )
+    return "".join(lines)
+
+
+def questions(files):
+    """The relations of each file."""
+    return "".join('{"do":"relations","file":%d}\n' % number for number in range(files))
+
+
+def mixed(count):
+    """Each file is imported and gets two tags, and then the tags of a file are asked for."""
+    tags = mappings(count, 2 * count).splitlines(keepends=True)
+    lines = []
+    for number in range(count):
+        asked = number * 7919 % (number + 1)
+        lines += [import_line(number), tags[number], tags[count + number]]
+        lines.append('{"do":"mappings","service":0,"file":%d}\n' % asked)
     return "".join(lines)
 
 
@@ -215,10 +232,15 @@ def main():
             "files to be tagged": (imports(TAGGED), TAGGED),
             "the same, and their mappings": (imports(TAGGED) + mappings(TAGGED, MAPPED), TAGGED + MAPPED),
             "twice the mappings": (imports(TAGGED) + mappings(TAGGED, 2 * MAPPED), TAGGED + 2 * MAPPED),
+            "imports, mappings and questions of them": (mixed(MIXED), 4 * MIXED),
             "decisions": (imports(decided) + decisions(decided, decided), 2 * decided),
             "twice the files and decisions": (
                 imports(2 * decided) + decisions(2 * decided, 2 * decided),
                 4 * decided,
+            ),
+            "the same, and questions of relations": (
+                imports(2 * decided) + decisions(2 * decided, 2 * decided) + questions(2 * decided),
+                6 * decided,
             ),
         }
         commands = programs(folder)

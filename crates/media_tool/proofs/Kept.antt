@@ -160,14 +160,20 @@ module _ {K : Type 0} {tells : Telling K} where
   pub feed_written : {T E : Type 0} (r m : SessionState K) (before piece kept : List ℕ) (t u v : Option (List ℕ)) (first held : List ℕ) (result : Result T E) → first ≡ []
       → ((line : List ℕ) → Keeps before line → FedKept tells r line piece m kept (Gathered t first u held)) → Sends u v held result
       → OnOk result ((line : List ℕ) → Keeps before line → FedKept tells r line piece m kept (Took t v)) × OnErr result ((line : List ℕ) → Keeps before line → Stopped tells r line piece m (TookFront t v))
-  feed_written r m before piece kept t u v first held (Ok value) none fed sends = (λ line keeps.
-      let p = fed line keeps in
-      record {
-        rest = p.rest;
-        keeps = p.keeps;
-        fed = fed_as r m line piece p.rest (Gathered t first u held) (Took t v) (λ text gathered. sends_from_none t u v first held text (done tt) none gathered sends) p.fed;
-      }, tt)
-  feed_written r m before piece kept t u v first held (Err error) none fed sends = (tt, λ line keeps.
-      let p = fed line keeps in
-      fed_cut_off r m line piece p.rest (Gathered t first u held) (TookFront t v)
-      (λ a b gathered. front_of_more t v a b (sends_from_none t u v first held a failing none gathered sends)) p.fed)
+  feed_written r m before piece kept t u v first held (Ok value) none fed sends = (
+    λ line keeps.
+        let p = fed line keeps in
+        record {
+          rest = p.rest;
+          keeps = p.keeps;
+          fed = fed_as r m line piece p.rest (Gathered t first u held) (Took t v) (λ text gathered. sends_from_none t u v first held text (done tt) none gathered sends) p.fed;
+        },
+    tt,
+  )
+  feed_written r m before piece kept t u v first held (Err error) none fed sends = (
+    tt,
+    λ line keeps.
+        let p = fed line keeps in
+        fed_cut_off r m line piece p.rest (Gathered t first u held) (TookFront t v)
+        (λ a b gathered. front_of_more t v a b (sends_from_none t u v first held a failing none gathered sends)) p.fed,
+  )

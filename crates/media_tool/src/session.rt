@@ -206,7 +206,14 @@ impl<K: Keeper> Session<K> {
         ensures same { OnErr result (self.new.line ≡ self.old.line) }
     {
         long_line_laws();
-        answer_line(alloc, &mut self.library, self.line.as_slice(), gather, sink, steps)?;
+        answer_line(
+            alloc,
+            &mut self.library,
+            self.line.as_slice(),
+            gather,
+            sink,
+            steps,
+        )?;
         self.line.clear();
         Ok(())
     }
