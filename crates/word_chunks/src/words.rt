@@ -17,7 +17,8 @@ pub type HitList = Listed<(HashNo, u32)>;
 
 /// Words by their chunks. Each is named by its number: its place in the order in which they were inserted.
 ///
-/// Contracts see the list of the words, and the room for more.
+/// A word takes 64 bytes, and up to twice that where pages aren't full. Contracts see the list of the words, and
+/// the room for more.
 #[derive(Drop)]
 pub struct WordChunks {
     masks: Masks,
@@ -128,7 +129,8 @@ impl WordChunks {
         Ok(Listed::from_rows(hits))
     }
 
-    /// What a search would read, from the counts alone: it reads no word.
+    /// What a search would read, from the counts alone: it reads no word. It looks at 4, 68, 548, 2,788 or 10,068
+    /// counts where a quarter of the distance is 0 to 4.
     pub fn reads_of(&self, word: Hash64, distance: SearchDistance) -> u64
         ensures { result ≡ reads self.now.rows word distance }
     {
