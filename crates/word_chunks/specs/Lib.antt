@@ -1,0 +1,9 @@
+pub mod ChunkLaws
+pub mod Chunked
+pub mod Chunks
+pub mod MaskLaws
+pub mod Masks
+pub mod Reading
+pub mod Rows
+pub mod Searching
+pub mod Telling
