@@ -22,7 +22,7 @@ enum Kind {
 const KINDS: [Kind; 4] = [Kind::Mixed, Kind::Families, Kind::OneValue, Kind::Same];
 
 fn mixed(number: u64) -> u64 {
-    let first = (number + 1).wrapping_mul(0x9e37_79b9_7f4a_7c15);
+    let first = number.wrapping_add(1).wrapping_mul(0x9e37_79b9_7f4a_7c15);
     let second = (first ^ (first >> 30)).wrapping_mul(0xbf58_476d_1ce4_e5b9);
     second ^ (second >> 27)
 }
