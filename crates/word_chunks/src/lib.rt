@@ -13,3 +13,6 @@ mod table;
 mod words;
 
 pub use words::{HitList, WordChunks};
+
+#[cfg(test)]
+mod tests;
