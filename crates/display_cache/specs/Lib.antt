@@ -1,0 +1,14 @@
+pub mod Cache
+pub mod Changing
+pub mod CountLaws
+pub mod GrowingLaws
+pub mod ListLaws
+pub mod PlaceLaws
+pub mod QueueLaws
+pub mod Recorded
+pub mod Shown
+pub mod SumLaws
+pub mod Sums
+pub mod SwitchLaws
+pub mod Switching
+pub mod TellLaws

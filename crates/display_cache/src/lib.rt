@@ -1,0 +1,7 @@
+//! What the files of a library show: for each service and file the tags that it shows as current and as pending,
+//! by the applied lists of its mappings, and how many live files show a tag.
+#![tactic(auto)]
+
+mod support;
+
+pub use support::Support;
