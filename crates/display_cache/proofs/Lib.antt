@@ -1,1 +1,4 @@
+mod Clauses
+mod Drafts
+mod Placed
 mod Worked

@@ -1,9 +1,11 @@
 pub mod Cache
 pub mod Changing
 pub mod CountLaws
+pub mod Drafting
 pub mod GrowingLaws
 pub mod ListLaws
 pub mod PlaceLaws
+pub mod Placing
 pub mod QueueLaws
 pub mod Recorded
 pub mod Shown

@@ -2,6 +2,8 @@
 //! by the applied lists of its mappings, and how many live files show a tag.
 #![tactic(auto)]
 
+mod draft;
+mod placing;
 mod support;
 
 pub use support::Support;
