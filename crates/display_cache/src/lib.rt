@@ -2,8 +2,13 @@
 //! by the applied lists of its mappings, and how many live files show a tag.
 #![tactic(auto)]
 
+mod display;
+mod display_plan;
 mod draft;
 mod placing;
 mod support;
+mod writing;
 
+pub use display::Display;
+pub use display_plan::DisplayPlan;
 pub use support::Support;
