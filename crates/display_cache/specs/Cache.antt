@@ -1,8 +1,9 @@
 -- What is kept of shown tags: how many mappings support each, how many live files show it, how many are shown.
 use Rattle.std.specs.Prelude.{◌≡◌, ℕ, Bool, not, ◌==◌, ◌&&◌, ◌||◌, ◌+◌, ◌-◌, nat_lt, if◌then◌else◌, List, [], ◌∷◌, Option, Some, None}
+use Rattle.media_types.specs.declared.numbers.TagNo.{TagNo}
 use Rattle.tag_types.specs.declared.map_state.MapState.{MapState}
 use Rattle.tag_types.specs.declared.map_state.MapState.TheVariants.{Current, Pending, Deleted}
-use Rattle.display_cache.specs.Shown.{World, has}
+use Rattle.display_cache.specs.Shown.{World, has, numbered}
 pub use Rattle.display_cache.specs.declared.support.Support.{Support}
 use Rattle.display_cache.specs.Sums.{how_many, one, sum_below}
 
@@ -41,6 +42,10 @@ is_pending_by u = nat_lt 0 u.pending && not (nat_lt 0 u.current)
 
 abbrev pub is_shown_by : Support → Bool
 is_shown_by u = is_current_by u || is_pending_by u
+
+-- the tag with whether it is shown as pending, where it is shown by the support
+abbrev pub shown_piece : ℕ → Support → List (TagNo × Bool)
+shown_piece x u = if is_shown_by u then (numbered x, is_pending_by u) ∷ [] else []
 
 -- supports by service, file and tag; counts by service and tag; the number of shown triples
 pub record Cache : Type 0 where

@@ -24,7 +24,8 @@ support-ext u v p q =
     ap (λ m. make m u.pending) p ∙ ap (make v.current) q
 
 module _ (services : ℕ) (W : World) (c : Cache) (h : Keeps services W c) where
-  zero-support : (s f x : ℕ) → ((t : ℕ) → t < W.tags → given W s f x t ≡ nothing) → c.supports s f x ≡ nothing
+  -- what no tag supports has a support of nothing
+  pub zero-support : (s f x : ℕ) → ((t : ℕ) → t < W.tags → given W s f x t ≡ nothing) → c.supports s f x ≡ nothing
   zero-support s f x none = support-ext (c.supports s f x) nothing
       (h.current s f x ∙ zero-sum W.tags (λ t. (given W s f x t).current) (λ t lt. ap (λ u. u.current) (none t lt)))
       (h.pending s f x ∙ zero-sum W.tags (λ t. (given W s f x t).pending) (λ t lt. ap (λ u. u.pending) (none t lt)))

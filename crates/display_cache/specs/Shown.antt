@@ -1,6 +1,7 @@
 -- What files show, from what they are mapped to and the lists in force; and how many files show a tag.
-use Rattle.std.specs.Prelude.{ℕ, Bool, true, false, not, ◌==◌, ◌&&◌, ◌||◌, List, filter, Option, Some, None}
+use Rattle.std.specs.Prelude.{ℕ, Bool, true, false, not, ◌==◌, ◌&&◌, ◌||◌, List, filter, map, Option, Some, None}
 use Rattle.std.specs.List.{list_any, range_with_len}
+use Rattle.media_types.specs.declared.numbers.TagNo.{TagNo}
 use Rattle.tag_types.specs.declared.map_state.MapState.{MapState}
 use Rattle.tag_types.specs.declared.map_state.MapState.TheVariants.{Current, Pending, Deleted}
 use Rattle.display_cache.specs.Sums.{how_many, some_below, sum_below}
@@ -39,12 +40,19 @@ abbrev pub shows_pending : World → ℕ → ℕ → ℕ → Bool
 shows_pending W s f x =
     some_below W.tags (λ t. is_pending (W.state s t f) && has (W.force s t f) x) && not (shows_current W s f x)
 
+abbrev pub numbered : ℕ → TagNo
+numbered x = record { 0 = x }
+
 -- the tags that a file shows, ascending
 unfoldable pub current_tags : World → ℕ → ℕ → List ℕ
 current_tags W s f = filter (shows_current W s f) (range_with_len 0 W.tags)
 
 unfoldable pub pending_tags : World → ℕ → ℕ → List ℕ
 pending_tags W s f = filter (shows_pending W s f) (range_with_len 0 W.tags)
+
+-- all tags that a file shows, ascending, each with whether it is shown as pending
+unfoldable pub shown_tags : World → ℕ → ℕ → List (TagNo × Bool)
+shown_tags W s f = map (λ x. (numbered x, shows_pending W s f x)) (filter (λ x. shows_current W s f x || shows_pending W s f x) (range_with_len 0 W.tags))
 
 -- the number of live files that show a tag
 unfoldable pub count_current : World → ℕ → ℕ → ℕ

@@ -1,9 +1,10 @@
-ghost use Rattle.std.specs.Prelude.{◌≡◌, ◌<◌, ◌≤◌, ◌+◌, ◌*◌, ◌∷◌, ◌++◌, if◌then◌else◌, ℕ, List, [], None, IfOk, OnOk, is_some, length, replicate};
+ghost use Rattle.std.specs.Prelude.{◌≡◌, ◌<◌, ◌≤◌, ◌+◌, ◌*◌, ◌^◌, ◌∷◌, ◌++◌, if◌then◌else◌, ℕ, List, [], None, IfOk, OnOk, is_some, length, replicate};
 ghost use Rattle.tag_types.specs.declared.limits.TheConstants.{MAX_SERVICES};
 ghost use Rattle.tag_store.specs.Mapped.{Ascend, Row, state_of, with_state};
+ghost use Rattle.display_cache.specs.Cache.{shown_piece};
 ghost use Rattle.display_cache.specs.Displayed.{HasRoom, IsOf, after, records_in, with_mark, with_tag};
 ghost use Rattle.display_cache.specs.Recorded.{applied, is_live, list_place, world_of};
-ghost use Rattle.display_cache.specs.Shown.{count_current, count_pending, triples};
+ghost use Rattle.display_cache.specs.Shown.{count_current, count_pending, shown_tags, triples};
 
 use crate::display_plan::DisplayPlan;
 use crate::draft::{Draft, Tables};
@@ -14,6 +15,9 @@ use std::alloc::Global;
 use std::marker::Model;
 use std::sync::ledger::Ledger;
 use tag_types::{MAX_SERVICES, MapState};
+
+/// Tags that a file shows, each with whether it is shown as pending.
+pub type ShownList = Listed<(TagNo, bool)>;
 
 /// What the files of a library show.
 #[derive(Drop)]
@@ -81,6 +85,27 @@ impl Display {
     {
         let counts = self.tables.counts((u32::from(s.0), t.0), steps);
         (u64::from(counts.current), u64::from(counts.pending))
+    }
+
+    /// The tags that a file shows, ascending, each with whether it is shown as pending.
+    pub fn shown<L: Ledger>(
+        &self,
+        s: ServiceNo,
+        f: FileNo,
+        steps: &mut Steps<L>,
+    ) -> Result<ShownList, NoMemory>
+        ensures { IfOk result (λ list. (n m : ℕ) (mappings : List Row) → n < 2 ^ 32 → IsOf n m mappings self.now.shown
+            → list ≡ shown_tags (world_of (records_in n m mappings self.now.shown)) s.0 f.0) }
+    {
+        let service = u32::from(s.0);
+        let mut list = Listed::new(self.alloc);
+        let mut from = 0;
+        while let Some(tag) = self.tables.next_tag(service, f.0, from, steps) {
+            let support = self.tables.support((service, f.0, tag), steps);
+            tell_shown(&mut list, tag, support)?;
+            from = u64::from(tag) + 1;
+        }
+        Ok(list)
     }
 
     /// Plans one tag more, to which nothing is mapped.
@@ -201,6 +226,16 @@ impl Display {
         add_tag(&mut self.lists, plan.has_new_tag(), self.alloc);
         set_live(&mut self.gone, plan.live());
     }
+}
+
+// Puts a tag last that is shown by a support.
+fn tell_shown(list: &mut ShownList, tag: u32, support: Support) -> Result<(), NoMemory>
+    ensures { OnOk result (list.new ≡ list.old ++ shown_piece tag support) }
+{
+    if support.is_shown() {
+        list.push((TagNo(tag), support.is_pending()))?;
+    }
+    Ok(())
 }
 
 // The lists of a new tag, where there is one.

@@ -9,6 +9,6 @@ mod placing;
 mod support;
 mod writing;
 
-pub use display::Display;
+pub use display::{Display, ShownList};
 pub use display_plan::DisplayPlan;
 pub use support::Support;
