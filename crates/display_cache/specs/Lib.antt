@@ -1,6 +1,7 @@
 pub mod Cache
 pub mod Changing
 pub mod CountLaws
+pub mod DisplayLaws
 pub mod Displayed
 pub mod Drafting
 pub mod GrowingLaws

@@ -114,6 +114,9 @@ impl Display {
         ensures room { IfOk result (λ plan. HasRoom plan self.new) }
         ensures after { IfOk result (λ plan. (n m : ℕ) (mappings : List Row) → IsOf n m mappings self.old.shown
             → ((s f : ℕ) → state_of mappings s n f ≡ None) → IsOf (n + 1) m mappings (after plan self.old.shown)) }
+        ensures lists { IfOk result (λ plan. (after plan self.old.shown).lists
+            ≡ self.old.shown.lists ++ replicate MAX_SERVICES []) }
+        ensures gone { IfOk result (λ plan. (after plan self.old.shown).gone ≡ self.old.shown.gone) }
     {
         let plan = DisplayPlan::new(
             Vec::new(self.alloc),
@@ -143,6 +146,8 @@ impl Display {
         ensures after { IfOk result (λ plan. (n m : ℕ) (mappings : List Row) → IsOf n m mappings self.old.shown
             → Ascend mappings → t.0 < n → f.0 < m → state_of mappings s.0 t.0 f.0 ≡ was
             → IsOf n m (with_state mappings s.0 t.0 f.0 now) (after plan self.old.shown)) }
+        ensures lists { IfOk result (λ plan. (after plan self.old.shown).lists ≡ self.old.shown.lists) }
+        ensures gone { IfOk result (λ plan. (after plan self.old.shown).gone ≡ self.old.shown.gone) }
         ensures reads { steps.new ≤ steps.old + (2 + 12 * length (applied self.old.shown.lists s.0 t.0)) }
     {
         self.tables.in_order();

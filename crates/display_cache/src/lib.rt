@@ -12,3 +12,6 @@ mod writing;
 pub use display::{Display, ShownList};
 pub use display_plan::DisplayPlan;
 pub use support::Support;
+
+#[cfg(test)]
+mod tests;

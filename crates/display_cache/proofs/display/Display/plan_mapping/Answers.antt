@@ -41,3 +41,11 @@ returns-clause-after g c = λ n m mappings is sorted ht hf has.
     (subst (λ (p : PlanView). IsOf n m (with_state mappings s t f c.args.now) (after p v)) (sym c.in_ok-plan.ensures.plan)
     (mapping-after it.tables it.rows it.lists.rows it.gone.rows s t f c.args.was c.args.now c.new-draft.result c.plan_place.new.draft plan n m mappings
     (subst (IsOf n m mappings) (sym seen) is) sorted ht hf has))
+
+pub returns-clause-lists : goal.returns-clause-lists
+unfolding after
+returns-clause-lists g c = ap (λ (p : PlanView). (after p c.args.self.now.shown).lists) c.in_ok-plan.ensures.plan
+
+pub returns-clause-gone : goal.returns-clause-gone
+unfolding after
+returns-clause-gone g c = ap (λ (p : PlanView). (after p c.args.self.now.shown).gone) c.in_ok-plan.ensures.plan

@@ -14,3 +14,11 @@ returns-clause-after c = λ n m mappings is unmapped.
     subst (λ (w : DisplayView). IsOf (n + 1) m mappings (after c.new-plan.result w)) seen
     (subst (λ (p : PlanView). IsOf (n + 1) m mappings (after p v)) (sym plan)
     (tag-after it.tables it.rows it.lists.rows it.gone.rows n m mappings (subst (IsOf n m mappings) (sym seen) is) unmapped))
+
+pub returns-clause-lists : goal.returns-clause-lists
+unfolding after
+returns-clause-lists c = ap (λ (p : PlanView). (after p c.args.self.now.shown).lists) c.new-plan.ensures
+
+pub returns-clause-gone : goal.returns-clause-gone
+unfolding after
+returns-clause-gone c = ap (λ (p : PlanView). (after p c.args.self.now.shown).gone) c.new-plan.ensures
