@@ -1,0 +1,9 @@
+mod Clauses
+mod Deleted
+mod Drafts
+mod NextTags
+mod Placed
+mod Plans
+mod ShownLists
+mod Values
+mod Worked
