@@ -1,0 +1,4 @@
+pub mod Ancestors
+pub mod ChainLaws
+pub mod SetLaws
+pub mod Sets
