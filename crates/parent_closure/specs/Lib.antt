@@ -1,4 +1,6 @@
 pub mod Ancestors
 pub mod ChainLaws
+pub mod Kept
+pub mod Planning
 pub mod SetLaws
 pub mod Sets
