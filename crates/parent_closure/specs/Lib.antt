@@ -2,5 +2,6 @@ pub mod Ancestors
 pub mod ChainLaws
 pub mod Kept
 pub mod Planning
+pub mod Reached
 pub mod SetLaws
 pub mod Sets

@@ -10,6 +10,7 @@
 
 mod parent_plan;
 mod parents;
+mod search;
 
 pub use parent_plan::ParentPlan;
 pub use parents::Parents;
