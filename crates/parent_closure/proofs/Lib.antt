@@ -1,2 +1,4 @@
+pub mod Nearest
 pub mod Places
 pub mod Searching
+pub mod Steps

@@ -19,3 +19,7 @@ with_parents child (p ∷ pairs) list = with_parents child pairs (if p.0 == chil
 -- the pair is another child's
 abbrev pub is_of_other : ℕ → Pair → Bool
 is_of_other child p = not (p.0 == child)
+
+-- another tag
+abbrev pub is_not : ℕ → ℕ → Bool
+is_not tag b = not (b == tag)

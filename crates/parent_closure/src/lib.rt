@@ -8,9 +8,11 @@
 //! A change is planned, which takes all memory, and then committed.
 #![tactic(auto)]
 
+mod ancestors;
 mod parent_plan;
 mod parents;
 mod search;
 
+pub use ancestors::TagList;
 pub use parent_plan::ParentPlan;
 pub use parents::Parents;

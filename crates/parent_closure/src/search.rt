@@ -17,8 +17,8 @@ pub fn is_in(list: &[u32], tag: u32) -> bool
     false
 }
 
-// Puts a tag last, unless it is there.
-fn put(list: &mut Vec<u32>, tag: u32) -> Result<(), NoMemory>
+/// Puts a tag last, unless it is there.
+pub fn put(list: &mut Vec<u32>, tag: u32) -> Result<(), NoMemory>
     ensures { OnOk result (list.new.items ≡ with_tag list.old.items tag) }
 {
     if !is_in(list.as_slice(), tag) {
