@@ -1,4 +1,3 @@
-pub mod Nearest
 pub mod Places
 pub mod Searching
 pub mod Steps

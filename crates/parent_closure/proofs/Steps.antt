@@ -1,54 +1,16 @@
 -- The pairs that are read between ideal tags.
-use Rattle.std.proofs.Common.{◌≡◌, ◌∙◌, ℕ, zero, suc, ◌+◌, ◌<◌, ◌==◌, ◌&&◌, ◌||◌, not, Bool, true, false, cond, List, [], ◌∷◌, ◌++◌, length, map, filter, take, get_or, slice_get, Some, refl, sym, ap, add-one, arith}
-use Rattle.std.specs.List.{flat_map, list_any}
+use Rattle.std.proofs.Common.{◌≡◌, ◌∙◌, ℕ, zero, suc, ◌+◌, ◌==◌, ◌&&◌, ◌||◌, not, Bool, true, false, cond, List, [], ◌∷◌, ◌++◌, map, filter, take, slice_get, Some, refl, sym, ap, add-one}
+use Rattle.std.specs.List.{flat_map}
 use Rattle.std.proofs.lemmas.Bool.{eqb-true, eq-eqb}
-use Rattle.std.proofs.lemmas.List.{append_assoc, map-append}
+use Rattle.std.proofs.lemmas.List.{map-append}
 use Rattle.std.proofs.lemmas.List.Folds.{list_any-append}
 use Rattle.media_types.specs.declared.numbers.ServiceNo.{ServiceNo}
 use Rattle.sibling_chains.specs.declared.relation_row.RelationRow.{RelationRow}
-use Rattle.sibling_chains.specs.Following.{Pair}
 use Rattle.sibling_chains.specs.Known.{Known, ideal_in}
-use Rattle.sibling_chains.specs.Recorded.{no_row, pair_of, pairs_of, pairs_in}
+use Rattle.sibling_chains.specs.Recorded.{pairs_of, pairs_in}
 use Rattle.parent_closure.specs.Ancestors.{between_ideals}
 use Rattle.parent_closure.specs.Implied.{steps_by}
 use Rattle.parent_closure.specs.Reached.{has, is_not, with_tag}
-
-abbrev stands_of : ServiceNo → RelationRow → Bool
-stands_of of row = row.standing && row.service.0 == of.0
-
-steps-next : (w : Known) (s : ℕ) (rows : List RelationRow) (i : ℕ) (of : ServiceNo) → i < length rows
-    → steps_by w s (take (suc i) rows) of ≡ steps_by w s (take i rows) of ++ steps_by w s (get_or rows i no_row ∷ []) of
-steps-next w s [] i of lt = absurd (omega (arith, lt))
-steps-next w s (row ∷ rows) zero of lt = refl
-steps-next w s (row ∷ rows) (suc i) of lt = by (stands_of of row) (steps-next w s rows i of (omega (arith, lt)))
-  where
-    f : Pair → Pair
-    f = between_ideals (ideal_in w s)
-
-    by : (b : Bool) → steps_by w s (take (suc i) rows) of ≡ steps_by w s (take i rows) of ++ steps_by w s (get_or rows i no_row ∷ []) of
-        → map (between_ideals (ideal_in w s)) (map pair_of (cond b (row ∷ filter (stands_of of) (take (suc i) rows)) (filter (stands_of of) (take (suc i) rows))))
-        ≡ map (between_ideals (ideal_in w s)) (map pair_of (cond b (row ∷ filter (stands_of of) (take i rows)) (filter (stands_of of) (take i rows)))) ++ steps_by w s (get_or rows i no_row ∷ []) of
-    by true e = ap (λ l. between_ideals (ideal_in w s) (pair_of row) ∷ l) e
-    by false e = e
-
-pub steps-more : (w : Known) (s : ℕ) (rows : List RelationRow) (i : ℕ) (of : ServiceNo) → i < length rows
-    → steps_by w s (take (i + 1) rows) of ≡ steps_by w s (take i rows) of ++ steps_by w s (get_or rows i no_row ∷ []) of
-steps-more w s rows i of lt = ap (λ n. steps_by w s (take n rows) of) (add-one i) ∙ steps-next w s rows i of lt
-
-flat-next : (g : ServiceNo → List Pair) (xs : List ServiceNo) (i : ℕ) (d : ServiceNo) → i < length xs → flat_map g (take (suc i) xs) ≡ flat_map g (take i xs) ++ g (get_or xs i d)
-flat-next g [] i d lt = absurd (omega (arith, lt))
-flat-next g (x ∷ xs) zero d lt = append-none (g x)
-  where
-    append-none : (l : List Pair) → l ++ [] ≡ l
-    append-none [] = refl
-    append-none (y ∷ l) = ap (λ k. y ∷ k) (append-none l)
-flat-next g (x ∷ xs) (suc i) d lt =
-    ap (λ l. g x ++ l) (flat-next g xs i d (omega (arith, lt)))
-    ∙ sym (append_assoc (g x) (flat_map g (take i xs)) (g (get_or xs i d)))
-
-pub flat-more : (g : ServiceNo → List Pair) (xs : List ServiceNo) (i : ℕ) (d : ServiceNo) → i < length xs
-    → flat_map g (take (i + 1) xs) ≡ flat_map g (take i xs) ++ g (get_or xs i d)
-flat-more g xs i d lt = ap (λ n. flat_map g (take n xs)) (add-one i) ∙ flat-next g xs i d lt
 
 -- service by service
 pub steps-all : (w : Known) (s : ℕ) (rows : List RelationRow) (order : List ServiceNo)
@@ -84,9 +46,6 @@ has-without [] i b = none (not (b == i))
     none false = refl
 has-without (x ∷ list) i b = by (x == i) refl (b == x) refl (has-without list i b)
   where
-    or-right : (y z : Bool) → (y || (z && has list b)) ≡ (z && (y || has list b)) → (y || (z && has list b)) ≡ (z && (y || has list b))
-    or-right y z e = e
-
     by : (c : Bool) → (x == i) ≡ c → (d : Bool) → (b == x) ≡ d → has (filter (is_not i) list) b ≡ (not (b == i) && has list b)
         → has (cond (not c) (x ∷ filter (is_not i) list) (filter (is_not i) list)) b ≡ (not (b == i) && (d || has list b))
     by true ec true ed rest =

@@ -1,5 +1,5 @@
 -- What the tags of a service imply, read from the siblings and the parents, as they are or once plans are carried out.
-use Rattle.std.specs.Prelude.{ℕ, Bool, not, ◌==◌, ◌&&◌, if◌then◌else◌, nat_le, nat_lt, List, [], ◌∷◌, ◌++◌, map, Option, Some, None, slice_index_or}
+use Rattle.std.specs.Prelude.{ℕ, ◌&&◌, if◌then◌else◌, nat_le, nat_lt, List, [], map, Option, Some, None, slice_index_or}
 use Rattle.media_types.specs.declared.numbers.ServiceNo.{ServiceNo}
 use Rattle.sibling_chains.specs.declared.sibling_plan.SiblingPlan.{SiblingPlan}
 use Rattle.sibling_chains.specs.declared.relation_row.RelationRow.{RelationRow}

@@ -1,7 +1,7 @@
-use Rattle.std.proofs.Common.{◌≡◌, ◌∙◌, ℕ, List, [], ap, get_or, filter, arith}
+use Rattle.std.proofs.Common.{◌≡◌, ◌∙◌, ℕ, List, ap, arith}
 use Rattle.std.proofs.lemmas.List.{get_or_read}
 use Rattle.sibling_chains.specs.Following.{Pair}
-use Rattle.parent_closure.specs.Reached.{is_of_other, with_parents}
+use Rattle.parent_closure.specs.Reached.{with_parents}
 use Rattle.parent_closure.proofs.Searching.{ended, fewer-by, first-by, longer-by, next-by}
 use Rattle.parent_closure.proofs.search.reached_from.Goals as goal
 
