@@ -11,7 +11,7 @@ use Rattle.sibling_chains.specs.Ends.{at}
 use Rattle.sibling_chains.specs.Following.{Pair}
 use Rattle.sibling_chains.specs.Grouping.{is_either, numbers_of}
 use Rattle.sibling_chains.specs.Recorded.{no_row}
-use Rattle.sibling_chains.proofs.GroupLists.{filter-by-place, passed-same}
+use Rattle.sibling_chains.specs.NumberLaws.{filter-by-place, passed-same}
 use Rattle.sibling_chains.proofs.Joining.{row-label, rows-len}
 
 pub passed-below : (test : ℕ → Bool) (m : ℕ) → All (λ n. n < m) (filter test (range_with_len 0 m))

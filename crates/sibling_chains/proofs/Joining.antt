@@ -15,7 +15,8 @@ use Rattle.sibling_chains.specs.Following.{Pair}
 use Rattle.sibling_chains.specs.Grouping.{is_either}
 use Rattle.sibling_chains.specs.LabelLaws.{labels-least, one-tie}
 use Rattle.sibling_chains.specs.Recorded.{no_row, pair_of, removed, removed_at}
-use Rattle.sibling_chains.proofs.GroupLists.{any-passed, at-own}
+use Rattle.sibling_chains.specs.NumberLaws.{any-passed}
+use Rattle.sibling_chains.proofs.GroupLists.{at-own}
 
 -- ---- the labels of two clusters
 either-same : (la lb l : ℕ) → (cond (is_either la lb l) (min la lb) l == min la lb) ≡ is_either la lb l

@@ -1,5 +1,5 @@
 -- The standing row of a service and a bad tag.
-use Rattle.std.proofs.Common.{◌≡◌, ◌≢◌, ◌∙◌, ◌⊎◌, ℕ, zero, suc, ◌+◌, ◌<◌, ◌≤◌, ◌==◌, ◌&&◌, Bool, true, false, cond, List, [], ◌∷◌, ◌++◌, length, map, filter, get_or, set, slice_get, count_by, Option, Some, None, refl, sym, ap, subst, inl, inr, arith}
+use Rattle.std.proofs.Common.{◌≡◌, ◌≢◌, ◌∙◌, ◌⊎◌, ℕ, zero, suc, ◌+◌, ◌<◌, ◌≤◌, ◌==◌, ◌&&◌, Bool, true, false, cond, List, [], ◌∷◌, ◌++◌, length, map, filter, get_or, count_by, Option, Some, None, refl, sym, ap, subst, inl, inr, arith}
 use Rattle.std.specs.Option.{option_map}
 use Rattle.std.proofs.lemmas.Bool.{and_parts, cases_eq, eqb-true, eq-eqb, false_from_ne_true}
 use Rattle.std.proofs.lemmas.List.{length_push}
@@ -8,6 +8,7 @@ use Rattle.media_types.specs.declared.numbers.ServiceNo.{ServiceNo}
 use Rattle.spare_tables.specs.Keys.{value_of}
 use Rattle.spare_tables.specs.Order.{pair_cmp}
 use Rattle.tag_types.specs.declared.limits.TheConstants.{MAX_RELATIONS}
+use Rattle.sibling_chains.specs.RowLaws.{length-removed}
 use Rattle.sibling_chains.specs.declared.relation_row.RelationRow.{RelationRow}
 use Rattle.sibling_chains.specs.Following.{Pair, good_of}
 use Rattle.sibling_chains.specs.PairTable.{ArePlaced}
@@ -169,16 +170,6 @@ count-removed p gone zero (row ∷ rows) =
     omega (arith, count-cons p (removed row) rows, count-cons p row rows, zero-is)
 count-removed p gone (suc n) (row ∷ rows) = omega (arith, count-cons p row rows, count-cons p row (removed_at n rows), count-removed p gone n rows)
 
-pub length-removed : (n : ℕ) (rows : List RelationRow) → length (removed_at n rows) ≡ length rows
-length-removed n [] = refl
-length-removed zero (row ∷ rows) = refl
-length-removed (suc n) (row ∷ rows) = ap suc (length-removed n rows)
-
-pub removed-past : (n : ℕ) (rows : List RelationRow) → length rows ≤ n → removed_at n rows ≡ rows
-removed-past n [] h = refl
-removed-past zero (row ∷ rows) h = absurd (omega (arith, h))
-removed-past (suc n) (row ∷ rows) h = ap (λ l. row ∷ l) (removed-past n rows (omega (arith, h)))
-
 removed-this : (s b : ℕ) (rows : List RelationRow) → count_by (stands_for s b) rows ≤ 1 → standing_at s b (removed_at (standing_place s b rows) rows) ≡ None
 removed-this s b [] h = refl
 removed-this s b (row ∷ rows) h = by (stands_for s b row) refl (removed-this s b rows)
@@ -220,17 +211,6 @@ placed-removed rows places new s b h this others = record {
   few = omega (arith, length-removed (standing_place s b rows) rows, h.few);
 }
 
--- a row is taken out, marked, and put back
-pub set-removed : (rows : List RelationRow) (n : ℕ) (row between : RelationRow) → slice_get rows n ≡ Some row → set (set rows n between) n (removed row) ≡ removed_at n rows
-set-removed [] n row between is = absurd (cc)
-set-removed (r ∷ rows) zero row between is = let same : row ≡ r = cc in ap (λ (x : RelationRow). removed x ∷ rows) same
-set-removed (r ∷ rows) (suc n) row between is = ap (λ (l : List RelationRow). r ∷ l) (set-removed rows n row between is)
-
-pub row-there : (rows : List RelationRow) (at : ℕ) (row : RelationRow) → slice_get rows at ≡ Some row → get_or rows at no_row ≡ row
-row-there [] at row is = absurd (cc)
-row-there (r ∷ rows) zero row is = cc
-row-there (r ∷ rows) (suc at) row is = row-there rows at row is
-
 -- without a good tag no row stands
 pub no-good : (s : ServiceNo) (b : ℕ) (rows : List RelationRow) → good_of (pairs_of rows s) b ≡ None → standing_at s.0 b rows ≡ None
 no-good s b rows none = by (standing_at s.0 b rows) (sym (standing-good s b rows) ∙ none)
@@ -238,25 +218,6 @@ no-good s b rows none = by (standing_at s.0 b rows) (sym (standing-good s b rows
     by : (o : Option ℕ) → option_map (λ n. (get_or rows n no_row).second.0) o ≡ None → o ≡ None
     by None e = refl
     by (Some n) e = cc
-
-pub get-removed-this : (n : ℕ) (rows : List RelationRow) → n < length rows → get_or (removed_at n rows) n no_row ≡ removed (get_or rows n no_row)
-get-removed-this n [] h = absurd (omega (arith, h))
-get-removed-this zero (row ∷ rows) h = refl
-get-removed-this (suc n) (row ∷ rows) h = get-removed-this n rows (omega (arith, h))
-
-pub get-removed-other : (n k : ℕ) (rows : List RelationRow) → (n ≡ k → ⊥) → get_or (removed_at n rows) k no_row ≡ get_or rows k no_row
-get-removed-other n k [] h = refl
-get-removed-other zero zero (row ∷ rows) h = absurd (h refl)
-get-removed-other zero (suc k) (row ∷ rows) h = refl
-get-removed-other (suc n) zero (row ∷ rows) h = refl
-get-removed-other (suc n) (suc k) (row ∷ rows) h = get-removed-other n k rows (λ e. h (ap suc e))
-
-pub first-removed : (n k : ℕ) (rows : List RelationRow) → (get_or (removed_at n rows) k no_row).first.0 ≡ (get_or rows k no_row).first.0
-first-removed n k [] = refl
-first-removed zero zero (row ∷ rows) = refl
-first-removed zero (suc k) (row ∷ rows) = refl
-first-removed (suc n) zero (row ∷ rows) = refl
-first-removed (suc n) (suc k) (row ∷ rows) = first-removed n k rows
 
 -- the standing row has this first tag
 pub standing-first : (s b : ℕ) (rows : List RelationRow) (n : ℕ) → standing_at s b rows ≡ Some n → (get_or rows n no_row).first.0 ≡ b

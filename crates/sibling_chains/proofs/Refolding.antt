@@ -18,9 +18,10 @@ use Rattle.sibling_chains.specs.Known.{AreEndsFor, AreFolded, rows_with}
 use Rattle.sibling_chains.specs.LabelLaws.{labels-least}
 use Rattle.sibling_chains.specs.Recorded.{ideal, no_row, pair_of, pairs_of, removed_at, standing_at, standing_place}
 use Rattle.sibling_chains.proofs.Gathered.{rows-counted}
-use Rattle.sibling_chains.proofs.GroupLists.{filter-by-place}
+use Rattle.sibling_chains.specs.NumberLaws.{filter-by-place}
 use Rattle.sibling_chains.proofs.Joining.{of-first, tied-set}
-use Rattle.sibling_chains.proofs.Places.{first-removed, length-removed, removed-past, standing-first, standing-good, standing-none, standing-within}
+use Rattle.sibling_chains.specs.RowLaws.{first-removed, length-removed, removed-past}
+use Rattle.sibling_chains.proofs.Places.{standing-first, standing-good, standing-none, standing-within}
 
 -- ---- the rows that are read
 first-but : (gone : Option ℕ) (rows : List RelationRow) (k : ℕ) → (get_or (rows_but gone rows) k no_row).first.0 ≡ (get_or rows k no_row).first.0

@@ -7,6 +7,8 @@ pub mod Following
 pub mod Grouping
 pub mod Known
 pub mod LabelLaws
+pub mod NumberLaws
 pub mod PairTable
 pub mod Planning
 pub mod Recorded
+pub mod RowLaws

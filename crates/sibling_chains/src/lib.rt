@@ -22,6 +22,7 @@ mod relation_row;
 mod sibling_plan;
 mod siblings;
 
+pub use grouped::Grouped;
 pub use relation_row::RelationRow;
 pub use sibling_plan::SiblingPlan;
 pub use siblings::Siblings;

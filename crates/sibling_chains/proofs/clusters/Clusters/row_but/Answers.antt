@@ -2,7 +2,7 @@ use Rattle.std.proofs.Common.{◌≡◌, ◌∙◌, Option, ℕ, List, get_or, s
 use Rattle.sibling_chains.specs.declared.relation_row.RelationRow.{RelationRow}
 use Rattle.sibling_chains.specs.Clustered.{rows_but}
 use Rattle.sibling_chains.specs.Recorded.{no_row, removed, removed_at}
-use Rattle.sibling_chains.proofs.Places.{get-removed-other, get-removed-this, row-there}
+use Rattle.sibling_chains.specs.RowLaws.{get-removed-other, get-removed-this, row-there}
 use Rattle.sibling_chains.proofs.clusters.Clusters.row_but.Goals as goal
 
 pub returns-in-Some-clause-row : goal.returns-in-Some-clause-row

@@ -2,7 +2,7 @@ use Rattle.std.proofs.Common.{◌≡◌, ◌∙◌, ◌-◌, ℕ, List, [], ◌�
 use Rattle.std.proofs.lemmas.List.{length_push}
 use Rattle.sibling_chains.specs.Ends.{at}
 use Rattle.sibling_chains.specs.Grouping.{is_either}
-use Rattle.sibling_chains.proofs.GroupLists.{passed-end, passed-le, passed-next}
+use Rattle.sibling_chains.specs.NumberLaws.{passed-end, passed-le, passed-next}
 use Rattle.sibling_chains.proofs.grouped.Grouped.members.Goals as goal
 
 pub returns-in_err-push-clause-steps : goal.returns-in_err-push-clause-steps

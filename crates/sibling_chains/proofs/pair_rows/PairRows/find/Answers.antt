@@ -2,7 +2,8 @@ use Rattle.std.proofs.Common.{◌∙◌, List, get_or, Some, sym, ap}
 use Rattle.std.specs.Option.{option_map}
 use Rattle.sibling_chains.specs.declared.relation_row.RelationRow.{RelationRow}
 use Rattle.sibling_chains.specs.Recorded.{no_row}
-use Rattle.sibling_chains.proofs.Places.{row-there, standing-good, standing-within}
+use Rattle.sibling_chains.specs.RowLaws.{row-there}
+use Rattle.sibling_chains.proofs.Places.{standing-good, standing-within}
 use Rattle.sibling_chains.proofs.pair_rows.PairRows.find.Goals as goal
 
 pub row-requires : goal.row-requires

@@ -6,7 +6,8 @@ use Rattle.sibling_chains.specs.declared.relation_row.RelationRow.{RelationRow}
 use Rattle.sibling_chains.specs.Following.{Pair}
 use Rattle.sibling_chains.specs.PairTable.{ArePlaced, PairTable}
 use Rattle.sibling_chains.specs.Recorded.{removed, removed_at, standing_at, standing_place}
-use Rattle.sibling_chains.proofs.Places.{placed-removed, removed-past, set-removed, standing-none, standing-within}
+use Rattle.sibling_chains.specs.RowLaws.{removed-past, set-removed}
+use Rattle.sibling_chains.proofs.Places.{placed-removed, standing-none, standing-within}
 use Rattle.sibling_chains.proofs.pair_rows.PairRows.remove.Goals as goal
 
 pub exchange-row-requires : goal.exchange-row-requires

@@ -1,0 +1,36 @@
+-- What the tags of a service imply, read from the siblings and the parents, as they are or once plans are carried out.
+use Rattle.std.specs.Prelude.{ℕ, ◌&&◌, if◌then◌else◌, nat_le, nat_lt, List, [], map, Option, Some, None, slice_index_or}
+use Rattle.media_types.specs.declared.numbers.ServiceNo.{ServiceNo}
+use Rattle.sibling_chains.specs.declared.sibling_plan.SiblingPlan.{SiblingPlan}
+use Rattle.sibling_chains.specs.declared.relation_row.RelationRow.{RelationRow}
+use Rattle.sibling_chains.specs.Following.{Pair}
+use Rattle.sibling_chains.specs.Grouping.{lesser_of}
+use Rattle.sibling_chains.specs.Known.{Known, ideal_in, order_of}
+use Rattle.sibling_chains.specs.Planning.{after as siblings_after}
+use Rattle.sibling_chains.specs.Recorded.{pairs_of}
+use Rattle.parent_closure.specs.declared.parent_plan.ParentPlan.{ParentPlan}
+use Rattle.parent_closure.specs.Ancestors.{Relations, between_ideals}
+use Rattle.parent_closure.specs.Kept.{Kept}
+use Rattle.parent_closure.specs.Planning.{after}
+
+-- what is known of the tags of a service
+abbrev pub relations_of : Kept → Known → ℕ → Relations
+relations_of v w s = record { sibling_order = order_of w s; parent_order = slice_index_or v.orders s []; siblings = w.rows; parents = v.rows }
+
+-- the parents, once a plan is carried out, where there is one
+abbrev pub planned : Option ParentPlan → Kept → Kept
+planned None v = v
+planned (Some plan) v = after plan v
+
+-- the siblings, once a plan is carried out, where there is one
+abbrev pub chained : Option SiblingPlan → Known → Known
+chained None w = w
+chained (Some plan) w = siblings_after plan w
+
+-- the pairs of one service, read between the ideal tags of another
+abbrev pub steps_by : Known → ℕ → List RelationRow → ServiceNo → List Pair
+steps_by w s rows of = map (between_ideals (ideal_in w s)) (pairs_of rows of)
+
+-- the nearer of a tag that isn't below one end nor above the other, and of what was found before
+abbrev pub nearer_of : ℕ → ℕ → ℕ → Option ℕ → Option ℕ
+nearer_of from end x found = if nat_le from x && nat_lt x end then lesser_of found (Some x) else found
