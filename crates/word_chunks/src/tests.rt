@@ -1,3 +1,5 @@
+ghost use Rattle.std.specs.Prelude.{◌≡◌, ◌<◌};
+
 use super::*;
 use media_types::{Hash64, HashNo, MAX_WORDS, NoMemory, SearchDistance, Steps, distance};
 use std::alloc::Global;
