@@ -18,7 +18,7 @@ mod status;
 
 pub use bytes_sink::BytesSink;
 pub use bytes_source::BytesSource;
-pub use change::{Change, ChangeList, Mapping};
+pub use change::{Change, ChangeList, Mapping, TagPair};
 pub use command::{Caller, Command, Job, Query, Upkeep};
 pub use gather::Gather;
 pub use keeper::{Keeper, NextFault, PutFault, StartFault};
@@ -31,8 +31,8 @@ pub use media_types::{
 };
 pub use refusal::{FieldName, Refusal, Unmet};
 pub use reply::{
-    Answer, FileMappings, ImportStatus, Imported, Mapped, QueueLengths, Reply, SearchCounts,
-    TagTextList,
+    Answer, FileMappings, IdealTag, ImportStatus, Imported, Mapped, QueueLengths, Reply,
+    SearchCounts, SiblingTags, TagTextList,
 };
 pub use sink::{Sink, write_all};
 pub use source::Source;

@@ -98,6 +98,8 @@ fn names(rt: HostRuntime) {
         (FieldName::Parents, "parents"),
         (FieldName::Tag, "tag"),
         (FieldName::State, "state"),
+        (FieldName::Bad, "bad"),
+        (FieldName::Good, "good"),
     ];
     for (field, text) in fields {
         assert_eq!(rt; field.text(), text);
@@ -162,6 +164,21 @@ fn a_change_is_copied(rt: HostRuntime) -> Result<(), Fail> {
             format!(in alloc; "{change:?}")?
         );
     }
+    Ok(())
+}
+
+#[test]
+fn a_pair_is_copied(rt: HostRuntime) -> Result<(), Fail> {
+    let alloc = rt.alloc();
+    let pair = TagPair {
+        service: ServiceNo(3),
+        first: clean(alloc, "a")?,
+        second: clean(alloc, "b")?,
+    };
+    let copy = pair.copied(alloc)?;
+    assert_eq!(rt; copy.service.0, 3);
+    assert_eq!(rt; copy.first.as_str(), "a");
+    assert_eq!(rt; copy.second.as_str(), "b");
     Ok(())
 }
 
