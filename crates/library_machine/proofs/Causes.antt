@@ -42,7 +42,7 @@ by_done r desks c (Ok false) why = (λ e. absurd (cc e), λ e. absurd (cc e))
 made_refused : (r : Records) (desks : Desks) (c : Change) (why : Unmet) → (made r desks c ≡ refused why) ↔ Lacks r (needs c) why
 made_refused r desks c why =
     let a = by_done r desks c (does r c) why in
-    let b = first_refuses (is_met r) (Met r) unmet (means r) (needs c) (is_idle r c) why in
+    let b = first_refuses (is_met r) (Met r) (unmet r) (means r) (needs c) (is_idle r c) why in
     (λ e. b.0 (a.0 e), λ p. a.1 (b.1 p))
 
 by_result : (desks : Desks) (result : Result Answer Unmet) (why : Unmet) → (by_answer desks result ≡ refused why) ↔ (result ≡ Err why)
@@ -62,7 +62,7 @@ step_refused : (s : State) (command : Command) (why : Unmet) → (step_of s comm
 step_refused s (commands.Ask q) why =
     let r = s.kept in
     let a = by_result s.desks _ why in
-    let b = first_refuses (is_met r) (Met r) unmet (means r) (query_needs q) (answer r q) why in
+    let b = first_refuses (is_met r) (Met r) (unmet r) (means r) (query_needs q) (answer r q) why in
     (λ e. b.0 (a.0 e), λ p. a.1 (b.1 p))
 step_refused s (commands.Do c) why = made_refused s.kept s.desks c why
 step_refused s (commands.Run j) why = job_refused s.kept s.desks (worked_out s.kept j) why

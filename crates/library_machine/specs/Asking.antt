@@ -13,8 +13,9 @@ use Rattle.relation_groups.specs.Relations as groups
 use Rattle.potential_pairs.specs.Pages.{named, page_of, within}
 use Rattle.potential_pairs.specs.Potential.{Row, potentials}
 use Rattle.library_machine.specs.Guards.{guarded}
-use Rattle.library_machine.specs.Needs.{Need, decision_there, file_there, service_there, is_met, unmet}
+use Rattle.library_machine.specs.Needs.{Need, decision_there, file_there, service_there, tag_there, is_met, unmet}
 use Rattle.library_machine.specs.Records.{Records}
+use Rattle.library_machine.specs.Relating.{ideal_told}
 use Rattle.library_machine.specs.Searches.{search_queue}
 use Rattle.library_machine.specs.Tagging.{file_mappings}
 
@@ -39,6 +40,7 @@ query_needs (queries.Pairs page) = []
 query_needs (queries.PairCount m) = []
 query_needs queries.Queues = []
 query_needs (queries.Mappings service file) = file_there file ∷ service_there service ∷ []
+query_needs (queries.Ideal service text) = service_there service ∷ tag_there text ∷ []
 
 -- The first pairs after a place, and how many pairs there are, are those within a distance. No tags wait yet.
 unfoldable pub answer : Records → Query → Answer
@@ -48,7 +50,8 @@ answer r (queries.Pairs page) = answers.Pairs (map named (page_of page.after pag
 answer r (queries.PairCount m) = answers.PairCount (length (within m (potential_pairs r)))
 answer r queries.Queues = answers.Queues (record { search = length (search_queue r); display = 0 })
 answer r (queries.Mappings service file) = answers.Mappings (file_mappings r service file)
+answer r (queries.Ideal service text) = answers.Ideal (ideal_told r service text)
 
 -- the answer, or why there is none
 abbrev pub asked : Records → Query → Result Answer Unmet
-asked r q = guarded (is_met r) unmet (query_needs q) (answer r q)
+asked r q = guarded (is_met r) (unmet r) (query_needs q) (answer r q)

@@ -17,8 +17,9 @@ use Rattle.decision_book.specs.Recorded.{undone_at}
 use Rattle.decision_book.specs.Standing as book
 use Rattle.library_machine.specs.Guards.{guarded}
 use Rattle.tag_types.specs.declared.map_state.MapState.{MapState}
-use Rattle.library_machine.specs.Needs.{Need, file_there, files_there, two_files, decision_there, not_undone, room_for_file, room_for_near, room_for_decision, service_there, services_there, tag_there, room_for_tag, room_for_mapping, room_for_service, is_known, is_met, unmet}
+use Rattle.library_machine.specs.Needs.{Need, file_there, files_there, two_files, decision_there, not_undone, room_for_file, room_for_near, room_for_decision, service_there, services_there, tag_there, room_for_tag, room_for_mapping, room_for_service, no_good_yet, pair_stands, room_for_tags, room_for_sibling, is_known, is_met, unmet}
 use Rattle.library_machine.specs.Records.{Records}
+use Rattle.library_machine.specs.Relating.{pair_tags, with_sibling, without_sibling}
 use Rattle.library_machine.specs.Searches.{after_search, counts, is_empty, risen}
 use Rattle.library_machine.specs.Tagging.{has_orders, is_mapped_so, mapping_told, next_service, services_named, with_mapping, with_orders, with_service}
 
@@ -38,6 +39,8 @@ needs (changes.Searched s) = files_there s.files ∷ room_for_near s ∷ []
 needs changes.Service = room_for_service ∷ []
 needs (changes.Orders service orders) = services_there (services_named service orders) ∷ []
 needs (changes.Mapping m) = file_there m.file ∷ service_there m.service ∷ mapping_needs m m.state
+needs (changes.SiblingAdded pair) = service_there pair.service ∷ no_good_yet pair.service pair.first ∷ room_for_tags pair.first pair.second ∷ room_for_sibling ∷ []
+needs (changes.SiblingRemoved pair) = service_there pair.service ∷ tag_there pair.first ∷ tag_there pair.second ∷ pair_stands pair ∷ []
 
 -- whether the file's mark is this one
 abbrev pub is_marked : Records → FileNo → Bool → Bool
@@ -55,6 +58,8 @@ is_idle r (changes.Searched s) = is_empty (risen r s)
 is_idle r changes.Service = false
 is_idle r (changes.Orders service orders) = has_orders r service orders
 is_idle r (changes.Mapping m) = is_mapped_so r m
+is_idle r (changes.SiblingAdded pair) = false
+is_idle r (changes.SiblingRemoved pair) = false
 
 -- What is recorded then, where it isn't idle. A marked file keeps all else; an undone decision keeps its number; and
 -- how far each file was searched stays when the distance changes.
@@ -68,6 +73,8 @@ effect r (changes.Searched s) = after_search r s
 effect r changes.Service = with_service r
 effect r (changes.Orders service orders) = with_orders r service orders
 effect r (changes.Mapping m) = with_mapping r m
+effect r (changes.SiblingAdded pair) = with_sibling r pair
+effect r (changes.SiblingRemoved pair) = without_sibling r pair
 
 -- what an import finds of the known file of number k
 abbrev pub known_status : List FileRow → ℕ → ImportStatus
@@ -88,7 +95,9 @@ answer_to r (changes.Searched s) = counts (risen r s) (after_search r s)
 answer_to r changes.Service = answers.Service (next_service r)
 answer_to r (changes.Orders service orders) = answers.Service service
 answer_to r (changes.Mapping m) = mapping_told r m m.state
+answer_to r (changes.SiblingAdded pair) = answers.Sibling (pair_tags r pair)
+answer_to r (changes.SiblingRemoved pair) = answers.Changed true
 
 -- whether the change would change nothing, or why it is refused
 abbrev pub does : Records → Change → Result Bool Unmet
-does r c = guarded (is_met r) unmet (needs c) (is_idle r c)
+does r c = guarded (is_met r) (unmet r) (needs c) (is_idle r c)

@@ -2,8 +2,8 @@
 use Rattle.std.proofs.Common.{◌≡◌, ◌≢◌, ◌⊎◌, ◌<◌, ◌≤◌, inl, inr, ℕ, zero, suc, Bool, true, false, not, Option, Some, None, is_some, option_map, List, [], ◌∷◌, ◌++◌, length, length-append, map, slice_get, Ok, arith, refl, sym, ap, ◌∙◌, rules}
 use Rattle.std.specs.Option.{option_map_or}
 use Rattle.std.proofs.lemmas.Bool.{eqb-false, both_ways}
-use Rattle.std.proofs.lemmas.List.{map-append}
-use Rattle.std.proofs.lemmas.List.Elements.{All-push}
+use Rattle.std.proofs.lemmas.List.{length-set, map-append}
+use Rattle.std.proofs.lemmas.List.Elements.{All-nil, All-push}
 use Rattle.std.proofs.lemmas.Option.{slice_get_cases}
 use Rattle.media_types.specs.declared.decision.Decision.{Decision}
 use Rattle.media_types.specs.declared.limits.TheConstants.{MAX_DECISIONS, MAX_FILES, MAX_NEAR}
@@ -31,7 +31,11 @@ use Rattle.library_machine.specs.Changing.{does, effect, is_idle, is_marked, nee
 use Rattle.library_machine.specs.Guards.{AreMet}
 use Rattle.library_machine.specs.Laws.{ChangesDiffer, ChangesKeepFit}
 use Rattle.library_machine.specs.Needs.{Met, is_met, unmet}
-use Rattle.library_machine.specs.Records.{Records, Fits, TagsFit, IsThere, IsNew, IsRecorded, no_records}
+use Rattle.library_machine.specs.RelatedLaws.{added_fit, fit_more, removed_fit, removed_other, tags_fit}
+use Rattle.library_machine.specs.Relating.{place_of, with_sibling, without_sibling}
+use Rattle.tag_store.specs.Numbering.{with_tag}
+use Rattle.tag_store.specs.NumberingLaws.{length-grows}
+use Rattle.library_machine.specs.Records.{Records, Fits, IsPairThere, PairsFit, TagsFit, IsThere, IsNew, IsRecorded, no_records}
 use Rattle.library_machine.specs.Searches.{after_search, is_empty, risen}
 use Rattle.library_machine.specs.MeetingLaws.{all_met, means, none_there, one_file}
 use Rattle.library_machine.specs.TaggedLaws.{fit_more_files, none_ascends, service_fit, orders_fit, orders_other, mapping_fits, mapping_other}
@@ -68,6 +72,7 @@ file_good r file new (inr room) fits = record {
   among = among_more (length r.files) _ _ (omega (arith, length-append r.files)) fits.among;
   of_two = fits.of_two;
   tags = fit_more_files (length r.files) _ r (omega (arith, length-append r.files)) fits.tags;
+  siblings = fits.siblings;
 }
 
 -- ---- marks
@@ -83,6 +88,7 @@ mark_good r file live fits = record {
   among = rw (marks.same_length file.0 live r.files) fits.among;
   of_two = fits.of_two;
   tags = rw (marks.same_length file.0 live r.files) fits.tags;
+  siblings = fits.siblings;
 }
 
 -- a file that is there has a row
@@ -123,6 +129,7 @@ decision_good r d a b two room fits = record {
       let OfTwo : Decision → Type 0 = λ e. e.a.0 ≢ e.b.0 in
       rw map-append (All-push OfTwo (map book.decision_of r.decisions) d fits.of_two (λ e. two (one_file d.a d.b e)));
   tags = fits.tags;
+  siblings = fits.siblings;
 }
 
 undoing_good : (r : Records) (n : DecisionNo) → Fits r → Fits (record r { decisions = undone_at n.0 r.decisions })
@@ -134,6 +141,7 @@ undoing_good r n fits = record {
   among = rw (undoing_keeps_decisions n.0 r.decisions) fits.among;
   of_two = rw (undoing_keeps_decisions n.0 r.decisions) fits.of_two;
   tags = fits.tags;
+  siblings = fits.siblings;
 }
 
 -- the row of an undone decision is another one
@@ -159,6 +167,7 @@ distance_good r d fits = record {
   among = fits.among;
   of_two = fits.of_two;
   tags = fits.tags;
+  siblings = fits.siblings;
 }
 
 search_good : (r : Records) (s : Searching) → is_empty (risen r s) ≡ false →
@@ -172,6 +181,7 @@ search_good r s fresh (inr room) fits = record {
   among = rw (searches.same_length s.distance s.files r.files) fits.among;
   of_two = fits.of_two;
   tags = rw (searches.same_length s.distance s.files r.files) fits.tags;
+  siblings = fits.siblings;
 }
 
 search_other : (r : Records) (s : Searching) → is_empty (risen r s) ≡ false → after_search r s ≢ r
@@ -180,10 +190,10 @@ search_other r s fresh same =
 
 -- ---- tags
 
--- records that differ in tags, services and mappings alone
+-- records that differ in tags, services, mappings and siblings alone
 with_tags : (r s : Records) → s.files ≡ r.files → s.decisions ≡ r.decisions → s.distance ≡ r.distance
-    → TagsFit (length r.files) s.tags s.services s.mappings → Fits r → Fits s
-with_tags r s files decisions distance tags fits = record {
+    → TagsFit (length r.files) s.tags s.services s.mappings → PairsFit (length s.services) (length s.tags) s.siblings → Fits r → Fits s
+with_tags r s files decisions distance tags siblings fits = record {
   few_files = rw files fits.few_files;
   few_decisions = rw decisions fits.few_decisions;
   few_near = rw files fits.few_near;
@@ -191,7 +201,14 @@ with_tags r s files decisions distance tags fits = record {
   among = rw (files, decisions) fits.among;
   of_two = rw decisions fits.of_two;
   tags = rw files tags;
+  siblings = siblings;
 }
+
+more_services : (r : Records) → PairsFit (length r.services) (length r.tags) r.siblings → PairsFit (length (with_service r).services) (length r.tags) r.siblings
+more_services r fit = fit_more _ _ _ _ r.siblings (omega (arith, length-append r.services)) (omega arith) fit
+
+more_tags : (r : Records) (text : List ℕ) → PairsFit (length r.services) (length r.tags) r.siblings → PairsFit (length r.services) (length (with_tag r.tags text)) r.siblings
+more_tags r text fit = fit_more _ _ _ _ r.siblings (omega arith) (length-grows text r.tags) fit
 
 -- ---- all changes
 
@@ -223,21 +240,29 @@ good r (changes.Searched s) met fresh = record {
   other = search_other r s fresh;
 }
 good r changes.Service met fresh = record {
-  fits = λ fits. with_tags r (with_service r) refl refl refl (service_fit r met.0 fits.tags) fits;
+  fits = λ fits. with_tags r (with_service r) refl refl refl (service_fit r met.0 fits.tags) (more_services r fits.siblings) fits;
   other = λ same. longer r.services _ (ap (λ (s : Records). s.services) same);
 }
 good r (changes.Orders service orders) met fresh = record {
-  fits = λ fits. with_tags r (with_orders r service orders) refl refl refl (orders_fit r service orders fits.tags) fits;
+  fits = λ fits. with_tags r (with_orders r service orders) refl refl refl (orders_fit r service orders fits.tags) (rw (length-set r.services service.0 orders) fits.siblings) fits;
   other = orders_other r service orders (met.0 0 service (omega arith)) fresh;
 }
 good r (changes.Mapping m) met fresh = record {
-  fits = λ fits. with_tags r (with_mapping r m) refl refl refl (mapping_fits r m met.0 met.1.0 met.1.1 fits.tags) fits;
+  fits = λ fits. with_tags r (with_mapping r m) refl refl refl (mapping_fits r m met.0 met.1.0 met.1.1 fits.tags) (more_tags r m.tag fits.siblings) fits;
   other = mapping_other r m fresh;
+}
+good r (changes.SiblingAdded pair) met fresh = record {
+  fits = λ fits. with_tags r (with_sibling r pair) refl refl refl (tags_fit r pair met.1.1.0 fits.tags) (added_fit r pair met.0 met.1.1.1.0 fits.siblings) fits;
+  other = λ same. longer r.siblings _ (ap (λ (s : Records). s.siblings) same);
+}
+good r (changes.SiblingRemoved pair) met fresh = record {
+  fits = λ fits. with_tags r (without_sibling r pair) refl refl refl fits.tags (removed_fit _ _ (place_of r pair) r.siblings fits.siblings) fits;
+  other = removed_other r pair met.1.1.1.0.0 met.1.1.1.0.1;
 }
 
 lawful_good : (r : Records) (c : Change) → does r c ≡ Ok false → IsGood r c
 lawful_good r c made =
-    let p = (all_met (is_met r) (Met r) unmet (means r) (needs c) (is_idle r c) false).0 made in
+    let p = (all_met (is_met r) (Met r) (unmet r) (means r) (needs c) (is_idle r c) false).0 made in
     good r c p.0 p.1
 
 pub changes_keep_fit : ChangesKeepFit
@@ -246,6 +271,10 @@ changes_keep_fit r change made = (lawful_good r change made).fits
 pub changes_differ : ChangesDiffer
 changes_differ r change made = (lawful_good r change made).other
 
+-- no pair is of what isn't there
+none_paired : PairsFit 1 0 []
+none_paired = record { few = omega arith; there = All-nil (IsPairThere 1 0) }
+
 pub first_fit : Fits no_records
 unfolding pairs_below
-first_fit = search (rules, none_ascends)
+first_fit = search (rules, none_ascends, none_paired)

@@ -69,7 +69,7 @@ ChangesDiffer = (r : Records) (change : Change) → does r change ≡ Ok false �
 
 -- what is told for the first of these needs that isn't met
 abbrev pub Lacks : Records → List Need → Unmet → Type 0
-Lacks r needed why = IsFirstUnmet (Met r) unmet needed why
+Lacks r needed why = IsFirstUnmet (Met r) (unmet r) needed why
 
 -- Why a command is refused: for the first of its needs that isn't met, or of the needs of the change that its job
 -- works out. Upkeep is never refused.

@@ -10,6 +10,8 @@ pub mod MeetingLaws
 pub mod Needs
 pub mod Opening
 pub mod Records
+pub mod RelatedLaws
+pub mod Relating
 pub mod Searches
 pub mod Session
 pub mod Step
@@ -29,6 +31,8 @@ pub use Rattle.media_base.specs.Replying
 pub use Rattle.potential_pairs.specs.Pages
 pub use Rattle.potential_pairs.specs.Potential
 pub use Rattle.relation_groups.specs.Relations
+pub use Rattle.sibling_chains.specs.Following
+pub use Rattle.sibling_chains.specs.Recorded as Paired
 pub use Rattle.spare_tables.specs.Pairs
 pub use Rattle.tag_store.specs.Mapped
 pub use Rattle.tag_store.specs.Numbering

@@ -1,11 +1,12 @@
 -- A test of a need says what its words say, and so for needs in their order: proved once, for all commands.
-use Rattle.std.proofs.Common.{◌≡◌, ◌≢◌, ◌↔◌, ◌⊎◌, ◌<◌, ◌≤◌, ◌==◌, ◌||◌, inl, inr, ℕ, Bool, true, false, not, if◌then◌else◌, nat_lt, nat_le, Option, Some, None, is_some, List, [], ◌∷◌, length, slice_get, Ok, Err, refl, sym, ap, ◌∙◌}
+use Rattle.std.proofs.Common.{◌≡◌, ◌≢◌, ◌↔◌, ◌⊎◌, ◌<◌, ◌≤◌, ◌==◌, ◌||◌, inl, inr, ℕ, Bool, true, false, not, if◌then◌else◌, nat_lt, nat_le, Option, Some, None, is_some, List, [], ◌∷◌, bytes_eq, length, slice_get, Ok, Err, refl, sym, ap, ◌∙◌}
 use Rattle.std.specs.Option.{option_map_or}
 use Rattle.std.specs.List.{All, list_all}
 use Rattle.std.proofs.lemmas.Bool.{ltb-true, lt-ltb, leb-true, le-leb, eqb-true, eqb-false, eq-eqb, both_ways, not-true}
 use Rattle.std.proofs.lemmas.List.{nil_from_length}
 use Rattle.std.proofs.lemmas.List.Sums.{AllPass-from_list_all, list_all-from_AllPass}
 use Rattle.std.proofs.lemmas.Option.{same_Some}
+use Rattle.std.proofs.lemmas.Slice.Eq.{bytes_eq-Decides}
 use Rattle.media_types.specs.declared.hash.Sha.{Sha}
 use Rattle.media_types.specs.declared.numbers.DecisionNo.{DecisionNo}
 use Rattle.media_types.specs.declared.numbers.FileNo.{FileNo}
@@ -16,8 +17,9 @@ use Rattle.decision_book.specs.declared.decision_row.DecisionRow.{DecisionRow}
 use Rattle.file_records.specs.LookupLaws.{not_found}
 use Rattle.library_machine.specs.Guards.{guarded, IsFirstUnmet, AreMet}
 use Rattle.tag_store.specs.NumberingLaws.{numbered_there}
-use Rattle.library_machine.specs.Needs.{Need, file_there, files_there, two_files, decision_there, not_undone, room_for_file, room_for_near, room_for_decision, service_there, services_there, tag_there, room_for_tag, room_for_mapping, room_for_service, has_file, has_service, is_met, Met}
+use Rattle.library_machine.specs.Needs.{Need, file_there, files_there, two_files, decision_there, not_undone, room_for_file, room_for_near, room_for_decision, service_there, services_there, tag_there, room_for_tag, room_for_mapping, room_for_service, no_good_yet, pair_stands, room_for_tags, room_for_sibling, has_file, has_service, is_met, Met}
 use Rattle.library_machine.specs.Records.{Records, IsThere, IsNew, IsRecorded, IsService}
+use Rattle.library_machine.specs.Relating.{good_number, text_of}
 use Rattle.library_machine.specs.Searches.{is_empty, risen}
 
 -- the test passes exactly where it is so
@@ -74,6 +76,20 @@ some_there : {A : Type 0} (found : Option A) → Says (is_some found) (found ≢
 some_there None = (λ e. absurd (cc e), λ some. absurd (some refl))
 some_there (Some x) = (λ e none. cc none, λ some. refl)
 
+none_there_yet : {A : Type 0} (found : Option A) → Says (not (is_some found)) (found ≡ None)
+none_there_yet None = (λ e. refl, λ none. refl)
+none_there_yet (Some x) = (λ e. absurd (cc e), λ none. absurd (cc none))
+
+stands_if : (r : Records) (second : List ℕ) (found : Option ℕ) →
+    Says (option_map_or (λ good. bytes_eq (text_of r good) second) found false) ((good : ℕ) × (found ≡ Some good) × (text_of r good ≡ second))
+stands_if r second None = (λ e. absurd (cc e), λ there. absurd (cc there.1))
+stands_if r second (Some good) = (
+  λ e. (good, refl, (bytes_eq-Decides (text_of r good) second).0 e),
+  λ there.
+      let same : there.0 ≡ good = sym (same_Some _ _ there.1) in
+      (bytes_eq-Decides (text_of r good) second).1 (sym (ap (text_of r) same) ∙ there.2),
+)
+
 -- one line for each kind of need
 pub means : (r : Records) (need : Need) → Says (is_met r need) (Met r need)
 means r (file_there f) = less _ _
@@ -90,6 +106,10 @@ means r (tag_there text) = numbered_there text r.tags
 means r (room_for_tag text) = either _ _ (numbered_there text r.tags) (less _ _)
 means r (room_for_mapping m) = either _ _ (some_there _) (less _ _)
 means r room_for_service = less _ _
+means r (no_good_yet service text) = none_there_yet _
+means r (pair_stands pair) = stands_if r pair.second (good_number r pair.service pair.first)
+means r (room_for_tags first second) = at_most _ _
+means r room_for_sibling = less _ _
 
 -- ---- needs in order
 

@@ -1,6 +1,6 @@
 -- What has to be so of the records for a command to be done: as a test, in plain words, and what is told where it
 -- isn't so.
-use Rattle.std.specs.Prelude.{ℕ, None, ◌≡◌, ◌≢◌, ◌<◌, ◌≤◌, ◌⊎◌, Bool, false, ◌==◌, ◌||◌, not, List, [], length, nat_lt, slice_get, is_some, All}
+use Rattle.std.specs.Prelude.{ℕ, None, Some, ◌≡◌, ◌≢◌, ◌<◌, ◌≤◌, ◌⊎◌, Bool, false, ◌==◌, ◌||◌, not, List, [], length, nat_le, nat_lt, slice_get, is_some, All}
 use Rattle.std.specs.List.{list_all}
 use Rattle.std.specs.Option.{option_map_or}
 use Rattle.media_types.specs.declared.decision.Decision.{Decision}
@@ -11,13 +11,15 @@ use Rattle.media_types.specs.declared.numbers.FileNo.{FileNo}
 use Rattle.media_types.specs.declared.numbers.ServiceNo.{ServiceNo}
 use Rattle.media_types.specs.declared.searching.Searching.{Searching}
 use Rattle.media_base.specs.declared.change.Mapping.{Mapping}
+use Rattle.media_base.specs.declared.change.TagPair.{TagPair}
 use Rattle.media_base.specs.declared.refusal.Unmet.{Unmet}
 use Rattle.media_base.specs.declared.refusal.Unmet.TheVariants as whys
 use Rattle.file_records.specs.Lookup.{file_with}
 use Rattle.file_records.specs.Near.{near_pairs}
-use Rattle.tag_types.specs.declared.limits.TheConstants.{MAX_MAPPINGS, MAX_SERVICES, MAX_TAGS}
+use Rattle.tag_types.specs.declared.limits.TheConstants.{MAX_MAPPINGS, MAX_RELATIONS, MAX_SERVICES, MAX_TAGS}
 use Rattle.tag_store.specs.Numbering.{number_of}
 use Rattle.library_machine.specs.Records.{Records, IsThere, IsNew, IsRecorded, IsService, IsTagged}
+use Rattle.library_machine.specs.Relating.{good_number, good_text, has_pair, text_of, with_both}
 use Rattle.library_machine.specs.Searches.{after_search, has_room_for_near, is_empty, risen}
 use Rattle.library_machine.specs.Tagging.{mapped}
 
@@ -41,6 +43,13 @@ pub data Need : Type 0 where
   -- for this mapping, where it is new
   room_for_mapping : Mapping → Need
   room_for_service : Need
+  -- no standing pair of the service leads this text to a good tag
+  no_good_yet : ServiceNo → List ℕ → Need
+  -- this pair stands
+  pair_stands : TagPair → Need
+  -- for the tags of these texts, where they are new
+  room_for_tags : List ℕ → List ℕ → Need
+  room_for_sibling : Need
 
 abbrev pub has_file : Records → FileNo → Bool
 has_file r f = nat_lt f.0 (length r.files)
@@ -73,6 +82,10 @@ is_met r (tag_there text) = has_tag r text
 is_met r (room_for_tag text) = has_tag r text || nat_lt (length r.tags) MAX_TAGS
 is_met r (room_for_mapping m) = has_mapping r m || nat_lt (length r.mappings) MAX_MAPPINGS
 is_met r room_for_service = nat_lt (length r.services) MAX_SERVICES
+is_met r (no_good_yet service text) = not (is_some (good_number r service text))
+is_met r (pair_stands pair) = has_pair r pair
+is_met r (room_for_tags first second) = nat_le (length (with_both r.tags first second)) MAX_TAGS
+is_met r room_for_sibling = nat_lt (length r.siblings) MAX_RELATIONS
 
 -- the same in plain words
 abbrev pub Met : Records → Need → Type 0
@@ -90,19 +103,28 @@ Met r (tag_there text) = IsTagged r text
 Met r (room_for_tag text) = IsTagged r text ⊎ (length r.tags < MAX_TAGS)
 Met r (room_for_mapping m) = (mapped r m.service m.tag m.file ≢ None) ⊎ (length r.mappings < MAX_MAPPINGS)
 Met r room_for_service = length r.services < MAX_SERVICES
+Met r (no_good_yet service text) = good_number r service text ≡ None
+Met r (pair_stands pair) = (good : ℕ) × (good_number r pair.service pair.first ≡ Some good) × (text_of r good ≡ pair.second)
+Met r (room_for_tags first second) = length (with_both r.tags first second) ≤ MAX_TAGS
+Met r room_for_sibling = length r.siblings < MAX_RELATIONS
 
-abbrev pub unmet : Need → Unmet
-unmet (file_there f) = whys.UnknownFile
-unmet (files_there fs) = whys.UnknownFile
-unmet (two_files d) = whys.SameFile
-unmet (decision_there n) = whys.UnknownDecision
-unmet (not_undone n) = whys.AlreadyUndone
-unmet (room_for_file sha) = whys.FullFiles
-unmet (room_for_near s) = whys.FullNear
-unmet room_for_decision = whys.FullDecisions
-unmet (service_there service) = whys.UnknownService
-unmet (services_there services) = whys.UnknownService
-unmet (tag_there text) = whys.UnknownTag
-unmet (room_for_tag text) = whys.FullTags
-unmet (room_for_mapping m) = whys.FullMappings
-unmet room_for_service = whys.FullServices
+-- A pair that is known tells the good tag that stands.
+abbrev pub unmet : Records → Need → Unmet
+unmet r (file_there f) = whys.UnknownFile
+unmet r (files_there fs) = whys.UnknownFile
+unmet r (two_files d) = whys.SameFile
+unmet r (decision_there n) = whys.UnknownDecision
+unmet r (not_undone n) = whys.AlreadyUndone
+unmet r (room_for_file sha) = whys.FullFiles
+unmet r (room_for_near s) = whys.FullNear
+unmet r room_for_decision = whys.FullDecisions
+unmet r (service_there service) = whys.UnknownService
+unmet r (services_there services) = whys.UnknownService
+unmet r (tag_there text) = whys.UnknownTag
+unmet r (room_for_tag text) = whys.FullTags
+unmet r (room_for_mapping m) = whys.FullMappings
+unmet r room_for_service = whys.FullServices
+unmet r (no_good_yet service text) = whys.PairKnown (good_text r service text)
+unmet r (pair_stands pair) = whys.UnknownPair
+unmet r (room_for_tags first second) = whys.FullTags
+unmet r room_for_sibling = whys.FullRelations

@@ -1,5 +1,5 @@
 -- What a library records, and nothing else. All that it tells is computed from these lists.
-use Rattle.std.specs.Prelude.{◌≡◌, ◌<◌, ◌≤◌, ℕ, Bool, List, [], length, map, Some, IsSome, Contains, slice_get}
+use Rattle.std.specs.Prelude.{◌≡◌, ◌<◌, ◌≤◌, ℕ, Bool, List, [], length, map, Some, All, IsSome, Contains, slice_get}
 use Rattle.media_types.specs.declared.hash.Sha.{Sha}
 use Rattle.media_types.specs.declared.limits.TheConstants.{FIRST_DISTANCE, MAX_DECISIONS, MAX_FILES, MAX_NEAR}
 use Rattle.media_types.specs.declared.numbers.DecisionNo.{DecisionNo}
@@ -12,11 +12,12 @@ use Rattle.decision_book.specs.declared.decision_row.DecisionRow.{DecisionRow}
 use Rattle.decision_book.specs.Standing.{decision_of}
 use Rattle.relation_groups.specs.Laws.{AreOfTwo}
 use Rattle.relation_groups.specs.Relations.{AreAmong}
-use Rattle.tag_types.specs.declared.limits.TheConstants.{MAX_MAPPINGS, MAX_SERVICES, MAX_TAGS}
+use Rattle.tag_types.specs.declared.limits.TheConstants.{MAX_MAPPINGS, MAX_RELATIONS, MAX_SERVICES, MAX_TAGS}
 use Rattle.tag_types.specs.declared.orders.Orders.{Orders}
 use Rattle.tag_store.specs.Mapped as mapped
 use Rattle.tag_store.specs.Numbering.{AreDistinctTexts}
 use Rattle.tag_store.specs.Serving.{first_services}
+use Rattle.sibling_chains.specs.declared.relation_row.RelationRow.{RelationRow}
 
 pub record Records : Type 0 where
   -- in order of import
@@ -31,6 +32,8 @@ pub record Records : Type 0 where
   pub services : List Orders
   -- by service, tag and file
   pub mappings : List mapped.Row
+  -- pairs of a bad tag and its good one, in order of recording, removed ones among them
+  pub siblings : List RelationRow
 
 abbrev pub no_records : Records
 no_records = record {
@@ -40,6 +43,7 @@ no_records = record {
   tags = [];
   services = first_services;
   mappings = [];
+  siblings = [];
 }
 
 -- the service, the tag and the file are among so many
@@ -58,6 +62,15 @@ pub record TagsFit (files : ℕ) (tags : List (List ℕ)) (services : List Order
   pub ascend : mapped.Ascend mappings
   pub there : (s t f : ℕ) → IsSome (mapped.state_of mappings s t f) → AreThere (length services) (length tags) files s t f
 
+-- the service and the two tags of a row are among so many
+abbrev pub IsPairThere : ℕ → ℕ → RelationRow → Type 0
+IsPairThere services tags row = (row.service.0 < services) × (row.first.0 < tags) × (row.second.0 < tags)
+
+-- What rows of pairs are: within the limit, each of a service and two tags that are there.
+pub record PairsFit (services tags : ℕ) (rows : List RelationRow) : Type 0 where
+  pub few : length rows ≤ MAX_RELATIONS
+  pub there : All (IsPairThere services tags) rows
+
 -- What records of every session are: within the limits, with no two files of one SHA-256, and each
 -- decision is of two different files that are there.
 pub record Fits (r : Records) : Type 0 where
@@ -68,6 +81,7 @@ pub record Fits (r : Records) : Type 0 where
   pub among : AreAmong (length r.files) (map decision_of r.decisions)
   pub of_two : AreOfTwo (map decision_of r.decisions)
   pub tags : TagsFit (length r.files) r.tags r.services r.mappings
+  pub siblings : PairsFit (length r.services) (length r.tags) r.siblings
 
 -- a file with this number is recorded
 abbrev pub IsThere : Records → FileNo → Type 0

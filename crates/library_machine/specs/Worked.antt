@@ -19,6 +19,7 @@ use Rattle.media_base.specs.Replying.{Reply}
 use Rattle.library_machine.specs.Asking.{query_needs}
 use Rattle.library_machine.specs.Changing.{needs}
 use Rattle.library_machine.specs.Needs.{unmet}
+use Rattle.library_machine.specs.Records.{no_records}
 
 abbrev pub file : ℕ → FileNo
 file k = record { 0 = k }
@@ -132,10 +133,22 @@ unmap_of text k = Do (changes.Mapping (record { service = record { 0 = 0 }; tag 
 abbrev pub mappings_of : ℕ → ℕ → Command
 mappings_of n k = Ask (queries.Mappings (record { 0 = n }) (file k))
 
--- the refusals of a command in the order of their tests, but for a job, whose change has them
+-- the sibling pair of these texts in service n is recorded
+abbrev pub sibling_of : ℕ → List ℕ → List ℕ → Command
+sibling_of n bad good = Do (changes.SiblingAdded (record { service = record { 0 = n }; first = bad; second = good }))
+
+-- and is removed
+abbrev pub no_sibling_of : ℕ → List ℕ → List ℕ → Command
+no_sibling_of n bad good = Do (changes.SiblingRemoved (record { service = record { 0 = n }; first = bad; second = good }))
+
+-- the question what the ideal tag of this text is in service n
+abbrev pub ideal_of : ℕ → List ℕ → Command
+ideal_of n text = Ask (queries.Ideal (record { 0 = n }) text)
+
+-- the refusals of a command in the order of their tests, where nothing is recorded, but for a job, whose change has them
 abbrev pub refusals_of : Command → List Unmet
-refusals_of (Ask q) = map unmet (query_needs q)
-refusals_of (Do c) = map unmet (needs c)
+refusals_of (Ask q) = map (unmet no_records) (query_needs q)
+refusals_of (Do c) = map (unmet no_records) (needs c)
 refusals_of (Run j) = []
 refusals_of (Tend u) = []
 
@@ -197,3 +210,11 @@ mapped n now = Ok (answers.Mapped (record { tag = record { 0 = n }; changed = no
 -- the tags of a file by the state of their mapping
 abbrev pub tagged : List (List ℕ) → List (List ℕ) → List (List ℕ) → Reply
 tagged current pending deleted = Ok (answers.Mappings (record { current = current; pending = pending; deleted = deleted }))
+
+-- the numbers of a pair's tags
+abbrev pub paired : ℕ → ℕ → Reply
+paired bad good = Ok (answers.Sibling (record { bad = record { 0 = bad }; good = record { 0 = good } }))
+
+-- the ideal tag, which implies no others
+abbrev pub ideal : List ℕ → Reply
+ideal text = Ok (answers.Ideal (record { ideal = text; ancestors = [] }))

@@ -1,13 +1,13 @@
 ghost use Rattle.std.specs.Prelude.{◌≡◌, true, false, [], ◌∷◌, codes, map};
 ghost use Rattle.media_types.specs.declared.decision.Code.TheVariants.{Alternates, NotRelated, Same};
-ghost use Rattle.media_base.specs.declared.refusal.Unmet.TheVariants.{AlreadyUndone, FullDecisions, FullFiles, FullMappings, FullNear, FullServices, FullTags, SameFile, UnknownDecision, UnknownFile, UnknownService, UnknownTag};
+ghost use Rattle.media_base.specs.declared.refusal.Unmet.TheVariants.{AlreadyUndone, FullDecisions, FullFiles, FullMappings, FullNear, FullServices, FullRelations, FullTags, PairKnown, SameFile, UnknownDecision, UnknownFile, UnknownPair, UnknownService, UnknownTag};
 ghost use Rattle.media_base.specs.declared.reply.ImportStatus.TheVariants.{New, Known, Deleted};
 ghost use Rattle.tag_types.specs.declared.map_state.MapState.TheVariants.{Current, Pending, Deleted as Taken};
 ghost use Rattle.library_machine.specs.Session.{nothing, replies, replies_behind};
-ghost use Rattle.library_machine.specs.Worked.{decide_of, import_of, import_with, queued, queues, pairs_from, pairs_behind, count_within, counted, listed, search_of, search_next, searched, distance_of, within, better_than, delete_of, undelete_of, changed, rebalance, rebalanced, relations_of, decision_of, undo_of, imported, decided, recorded, undone, grouped, standing, add_service, orders_of, map_of, unmap_of, mappings_of, served, mapped, tagged, no, refusals_of};
+ghost use Rattle.library_machine.specs.Worked.{decide_of, import_of, import_with, queued, queues, pairs_from, pairs_behind, count_within, counted, listed, search_of, search_next, searched, distance_of, within, better_than, delete_of, undelete_of, changed, rebalance, rebalanced, relations_of, decision_of, undo_of, imported, decided, recorded, undone, grouped, standing, add_service, orders_of, map_of, unmap_of, mappings_of, served, mapped, tagged, sibling_of, no_sibling_of, ideal_of, paired, ideal, no, refusals_of};
 
 /// Small sessions whose replies can be followed by hand. The call does nothing.
-#[tactic(auto, unfolding(crate::specs::Step::step, crate::specs::Step::admitted, crate::specs::Changing::needs, crate::specs::Changing::is_idle, crate::specs::Changing::effect, crate::specs::Changing::answer_to, crate::specs::Asking::query_needs, crate::specs::Asking::answer, crate::specs::Jobs::worked_out, crate::specs::Jobs::tended, file_records::specs::Searching::queue_of, file_records::specs::Searching::searched, file_records::specs::Searching::rising, file_records::specs::Near::near_at, spare_tables::specs::Pairs::pairs_below, potential_pairs::specs::Potential::potential_at, potential_pairs::specs::Pages::page_of, relation_groups::specs::Relations::relations_at))]
+#[tactic(auto, unfolding(crate::specs::Step::step, crate::specs::Step::admitted, crate::specs::Changing::needs, crate::specs::Changing::is_idle, crate::specs::Changing::effect, crate::specs::Changing::answer_to, crate::specs::Asking::query_needs, crate::specs::Asking::answer, crate::specs::Jobs::worked_out, crate::specs::Jobs::tended, file_records::specs::Searching::queue_of, file_records::specs::Searching::searched, file_records::specs::Searching::rising, file_records::specs::Near::near_at, spare_tables::specs::Pairs::pairs_below, potential_pairs::specs::Potential::potential_at, potential_pairs::specs::Pages::page_of, relation_groups::specs::Relations::relations_at, sibling_chains::specs::Recorded::ideal))]
 pub fn worked_rows()
     // Each command's, in the order of their tests.
     ensures refusals_in_order { map refusals_of (import_of 10 ∷ delete_of 0 ∷ undelete_of 0 ∷ better_than 0 1 ∷ undo_of 0 ∷ distance_of 8 ∷ search_of (0 ∷ []) 8 ∷ [])
@@ -16,6 +16,9 @@ pub fn worked_rows()
     ensures tag_refusals_in_order { map refusals_of (add_service ∷ orders_of 1 (0 ∷ []) [] ∷ map_of (codes "a") 0 Current ∷ unmap_of (codes "a") 0 ∷ mappings_of 0 0 ∷ [])
         ≡ (FullServices ∷ []) ∷ (UnknownService ∷ []) ∷ (UnknownFile ∷ UnknownService ∷ FullTags ∷ FullMappings ∷ [])
         ∷ (UnknownFile ∷ UnknownService ∷ UnknownTag ∷ []) ∷ (UnknownFile ∷ UnknownService ∷ []) ∷ [] }
+    ensures sibling_refusals_in_order { map refusals_of (sibling_of 0 (codes "a") (codes "b") ∷ no_sibling_of 0 (codes "a") (codes "b") ∷ ideal_of 0 (codes "a") ∷ [])
+        ≡ (UnknownService ∷ PairKnown [] ∷ FullTags ∷ FullRelations ∷ []) ∷ (UnknownService ∷ UnknownTag ∷ UnknownTag ∷ UnknownPair ∷ [])
+        ∷ (UnknownService ∷ UnknownTag ∷ []) ∷ [] }
     ensures questions_in_order { map refusals_of (relations_of 0 ∷ decision_of 0 ∷ pairs_from 10 16 ∷ count_within 8 ∷ queues ∷ [])
         ≡ (UnknownFile ∷ []) ∷ (UnknownDecision ∷ []) ∷ [] ∷ [] ∷ [] ∷ [] }
 
@@ -135,6 +138,24 @@ pub fn worked_rows()
     ensures services_and_their_orders { replies nothing
         (orders_of 0 (0 ∷ 1 ∷ []) [] ∷ add_service ∷ orders_of 0 (0 ∷ 1 ∷ []) [] ∷ orders_of 2 [] [] ∷ [])
         ≡ no UnknownService ∷ served 1 ∷ served 0 ∷ no UnknownService ∷ [] }
+
+    // In service 0 c to a is passed over, since a leads to c, and a to d of service 1, since a has a good tag.
+    ensures a_loop_of_siblings { replies_behind
+        (add_service ∷ orders_of 0 (0 ∷ 1 ∷ []) (0 ∷ []) ∷ sibling_of 0 (codes "a") (codes "b") ∷ sibling_of 0 (codes "b") (codes "c")
+        ∷ sibling_of 0 (codes "c") (codes "a") ∷ sibling_of 1 (codes "a") (codes "d") ∷ [])
+        (ideal_of 0 (codes "a") ∷ ideal_of 0 (codes "b") ∷ ideal_of 0 (codes "c") ∷ ideal_of 1 (codes "a") ∷ sibling_of 0 (codes "a") (codes "b")
+        ∷ no_sibling_of 0 (codes "b") (codes "c") ∷ ideal_of 0 (codes "c") ∷ [])
+        ≡ ideal (codes "c") ∷ ideal (codes "c") ∷ ideal (codes "c") ∷ ideal (codes "d") ∷ no (PairKnown (codes "b"))
+        ∷ changed true ∷ ideal (codes "b") ∷ [] }
+
+    // A pair of a tag with itself has no effect.
+    ensures a_tag_has_one_good_tag { replies nothing
+        (sibling_of 0 (codes "a") (codes "b") ∷ sibling_of 0 (codes "a") (codes "c") ∷ no_sibling_of 0 (codes "a") (codes "c") ∷ no_sibling_of 0 (codes "b") (codes "a")
+        ∷ no_sibling_of 0 (codes "a") (codes "b") ∷ no_sibling_of 0 (codes "a") (codes "b") ∷ sibling_of 0 (codes "a") (codes "c")
+        ∷ sibling_of 0 (codes "b") (codes "b") ∷ ideal_of 0 (codes "b") ∷ sibling_of 1 (codes "b") (codes "a") ∷ [])
+        ≡ paired 0 1 ∷ no (PairKnown (codes "b")) ∷ no UnknownTag ∷ no UnknownPair
+        ∷ changed true ∷ no UnknownPair ∷ paired 0 2
+        ∷ paired 1 1 ∷ ideal (codes "b") ∷ no UnknownService ∷ [] }
     ensures all_bits_differ { replies_behind
         (import_with 10 (0 ∷ []) ∷ import_with 11 (0xffffffffffffffff ∷ []) ∷ distance_of 16 ∷ [])
         (search_next 2 ∷ pairs_from 10 16 ∷ [])

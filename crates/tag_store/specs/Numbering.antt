@@ -1,5 +1,5 @@
 -- Tags are numbered by first use.
-use Rattle.std.specs.Prelude.{◌≡◌, ◌≢◌, ◌<◌, ◌≤◌, ◌⊎◌, ℕ, Bool, true, if◌then◌else◌, List, [], ◌∷◌, ◌++◌, length, Option, position, bytes_eq}
+use Rattle.std.specs.Prelude.{◌≡◌, ◌≢◌, ◌<◌, ◌≤◌, ◌⊎◌, ℕ, Bool, true, not, if◌then◌else◌, List, [], ◌∷◌, ◌++◌, length, Option, position, bytes_eq}
 use Rattle.std.specs.List.{AllPairs, list_any, position_or_len}
 use Rattle.tag_types.specs.declared.limits.TheConstants.{MAX_TAGS}
 
@@ -18,6 +18,14 @@ number_or_next text texts = position_or_len (bytes_eq text) texts
 -- the texts, with this one behind them where it is new
 abbrev pub with_tag : List (List ℕ) → List ℕ → List (List ℕ)
 with_tag texts text = if is_tag text texts then texts else texts ++ text ∷ []
+
+-- the number that a text has or would have, once another one is numbered
+abbrev pub number_behind : List ℕ → List ℕ → List (List ℕ) → ℕ
+number_behind first second texts = number_or_next second (with_tag texts first)
+
+-- the text has no number then
+abbrev pub is_new_behind : List ℕ → List ℕ → List (List ℕ) → Bool
+is_new_behind first second texts = not (is_tag second (with_tag texts first))
 
 -- no two tags have the same text
 abbrev pub AreDistinctTexts : List (List ℕ) → Type 0

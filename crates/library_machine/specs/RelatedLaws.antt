@@ -1,0 +1,118 @@
+-- What changes of sibling pairs leave: records that fit, and others. The ideal tag of a tag that is there is there too.
+use Rattle.std.proofs.Common.{◌≡◌, ◌≢◌, ◌<◌, ◌≤◌, ◌==◌, ◌&&◌, ℕ, zero, suc, Bool, true, false, cond, option_and_then, nat_lt, Option, Some, None, List, [], ◌∷◌, length, length-append, map, filter, arith, refl, sym, ap, ◌∙◌}
+use Rattle.std.specs.List.{AllByRecursion}
+use Rattle.std.proofs.lemmas.Bool.{lt-ltb, ltb-true}
+use Rattle.std.proofs.lemmas.List.Elements.{All-push, All-from_recursion, recursion_from_All}
+use Rattle.media_types.specs.declared.numbers.ServiceNo.{ServiceNo}
+use Rattle.media_types.specs.declared.numbers.TagNo.{TagNo}
+use Rattle.media_base.specs.declared.change.TagPair.{TagPair}
+use Rattle.tag_types.specs.declared.limits.TheConstants.{MAX_RELATIONS, MAX_TAGS}
+use Rattle.tag_store.specs.Numbering.{number_of, with_tag}
+use Rattle.tag_store.specs.NumberingLaws.{distinct-with_tag, length-grows, next_within, number_is}
+use Rattle.sibling_chains.specs.ClusterLaws.{alone}
+use Rattle.sibling_chains.specs.Clusters.{IsClosed}
+use Rattle.sibling_chains.specs.Following.{good_of}
+use Rattle.sibling_chains.specs.Recorded.{pair_of, pairs_of, removed, removed_at, standing_place}
+use Rattle.sibling_chains.specs.RowLaws.{length-removed}
+use Rattle.sibling_chains.specs.declared.relation_row.RelationRow.{RelationRow}
+use Rattle.library_machine.specs.Records.{Records, IsPairThere, IsService, PairsFit, TagsFit}
+use Rattle.library_machine.specs.Relating.{good_number, ideal_number, row_of, sibling_order, with_both, with_sibling, without_sibling}
+use Rattle.library_machine.specs.Tagging.{numbered}
+
+-- among more services and tags
+pub fit_more : (s t a b : ℕ) (rows : List RelationRow) → s ≤ a → t ≤ b → PairsFit s t rows → PairsFit a b rows
+fit_more s t a b rows more_s more_t fit = record {
+  few = fit.few;
+  there = λ k d lt. let at = fit.there k d lt in (omega (arith, at.0, more_s), omega (arith, at.1, more_t), omega (arith, at.2, more_t));
+}
+
+module _ (r : Records) (pair : TagPair) where
+  grows : length r.tags ≤ length (with_both r.tags pair.first pair.second)
+  grows =
+      let first = length-grows pair.first r.tags in
+      let second = length-grows pair.second (with_tag r.tags pair.first) in
+      omega (arith, first, second)
+
+  row_there : IsService r pair.service → IsPairThere (length r.services) (length (with_both r.tags pair.first pair.second)) (row_of r pair)
+  row_there service =
+      let bad = next_within pair.first r.tags in
+      let more = length-grows pair.second (with_tag r.tags pair.first) in
+      (service, omega (arith, bad, more), next_within pair.second (with_tag r.tags pair.first))
+
+  pub tags_fit : length (with_both r.tags pair.first pair.second) ≤ MAX_TAGS → TagsFit (length r.files) r.tags r.services r.mappings
+      → TagsFit (length r.files) (with_sibling r pair).tags r.services r.mappings
+  tags_fit few fit = record {
+    few_tags = few;
+    few_services = fit.few_services;
+    few_mappings = fit.few_mappings;
+    distinct = distinct-with_tag pair.second (with_tag r.tags pair.first) (distinct-with_tag pair.first r.tags fit.distinct);
+    ascend = fit.ascend;
+    there = λ s t f is. let at = fit.there s t f is in record { service = at.service; tag = omega (arith, at.tag, grows); file = at.file };
+  }
+
+  pub added_fit : IsService r pair.service → length r.siblings < MAX_RELATIONS → PairsFit (length r.services) (length r.tags) r.siblings
+      → PairsFit (length r.services) (length (with_sibling r pair).tags) (with_sibling r pair).siblings
+  added_fit service room fit =
+      let more = fit_more (length r.services) (length r.tags) (length r.services) (length (with_both r.tags pair.first pair.second)) r.siblings (omega arith) grows fit in
+      record {
+        few = omega (arith, room, length-append r.siblings);
+        there = All-push (IsPairThere (length r.services) (length (with_both r.tags pair.first pair.second))) r.siblings (row_of r pair) more.there (row_there service);
+      }
+
+-- ---- a pair that is removed
+
+still_there : (s t n : ℕ) (rows : List RelationRow) → AllByRecursion (IsPairThere s t) rows → AllByRecursion (IsPairThere s t) (removed_at n rows)
+still_there s t n [] all = tt
+still_there s t zero (row ∷ rows) all = all
+still_there s t (suc n) (row ∷ rows) all = (all.0, still_there s t n rows all.1)
+
+pub removed_fit : (s t n : ℕ) (rows : List RelationRow) → PairsFit s t rows → PairsFit s t (removed_at n rows)
+removed_fit s t n rows fit = record {
+  few = rw (length-removed n rows) fit.few;
+  there = All-from_recursion (IsPairThere s t) (removed_at n rows) (still_there s t n rows (recursion_from_All (IsPairThere s t) rows fit.there));
+}
+
+-- the row that stands for a bad tag becomes another one
+place_differs : (s : ServiceNo) (bad good : ℕ) (rows : List RelationRow) → good_of (pairs_of rows s) bad ≡ Some good →
+    removed_at (standing_place s.0 bad rows) rows ≢ rows
+place_differs s bad good [] is = absurd (cc is)
+place_differs s bad good (row ∷ rows) is = by row.standing (row.service.0 == s.0) (row.first.0 == bad) refl refl refl (place_differs s bad good rows) is
+  where
+    by : (stands here first : Bool) → row.standing ≡ stands → (row.service.0 == s.0) ≡ here → (row.first.0 == bad) ≡ first
+        → (good_of (pairs_of rows s) bad ≡ Some good → removed_at (standing_place s.0 bad rows) rows ≢ rows)
+        → good_of (map pair_of (cond (stands && here) (row ∷ filter (λ row. row.standing && row.service.0 == s.0) rows) (filter (λ row. row.standing && row.service.0 == s.0) rows))) bad ≡ Some good
+        → removed_at (cond ((stands && here) && first) 0 (suc (standing_place s.0 bad rows))) (row ∷ rows) ≢ row ∷ rows
+    by true true true stands here first rest is same =
+        let head : removed row ≡ row = cc same in
+        let standing = ap (λ (row : RelationRow). row.standing) head in
+        cc (standing, stands)
+    by true true false stands here first rest is same =
+        let later : good_of (pairs_of rows s) bad ≡ Some good = sym (ap (λ (found : Bool). cond found (Some row.second.0) (good_of (pairs_of rows s) bad)) first) ∙ is in
+        rest later (cc same)
+    by true false first stands here is_first rest is same = rest is (cc same)
+    by false here first stands is_here is_first rest is same = rest is (cc same)
+
+-- a text that has a good tag is numbered, and its number has the good one
+numbered_good : (r : Records) (service : ServiceNo) (text : List ℕ) (good : ℕ) (found : Option ℕ) → number_of text r.tags ≡ found → good_number r service text ≡ Some good →
+    good_of (pairs_of r.siblings service) (numbered r text).0 ≡ Some good
+numbered_good r service text good None none is = absurd (cc (none, is))
+numbered_good r service text good (Some bad) found is =
+    ap (good_of (pairs_of r.siblings service)) (number_is text r.tags (number_of text r.tags) refl bad found)
+    ∙ sym (ap (λ (number : Option ℕ). option_and_then (λ bad. good_of (pairs_of r.siblings service) bad) number) found) ∙ is
+
+pub good_stands : (r : Records) (service : ServiceNo) (text : List ℕ) (good : ℕ) → good_number r service text ≡ Some good →
+    good_of (pairs_of r.siblings service) (numbered r text).0 ≡ Some good
+good_stands r service text good = numbered_good r service text good _ refl
+
+pub removed_other : (r : Records) (pair : TagPair) (good : ℕ) → good_number r pair.service pair.first ≡ Some good → without_sibling r pair ≢ r
+removed_other r pair good is same =
+    place_differs pair.service (numbered r pair.first).0 good r.siblings (good_stands r pair.service pair.first good is) (ap (λ (s : Records). s.siblings) same)
+
+-- ---- ideal tags
+
+pub ideal_there : (r : Records) (service : ServiceNo) (tag : TagNo) → PairsFit (length r.services) (length r.tags) r.siblings → tag.0 < length r.tags →
+    ideal_number r service tag < length r.tags
+ideal_there r service tag fit there =
+    let is_there : ℕ → Bool = λ t. nat_lt t (length r.tags) in
+    let closed : IsClosed is_there r.siblings = λ k d lt. let at = fit.there k d lt in lt-ltb _ _ at.1 ∙ sym (lt-ltb _ _ at.2) in
+    ltb-true _ _ (alone is_there (sibling_order r service) r.siblings closed tag.0 (lt-ltb _ _ there)).1
