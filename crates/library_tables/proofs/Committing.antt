@@ -66,6 +66,8 @@ import_in_step t plan after step leads files book groups tree work number rows w
   queued =
       noted_is ∙ ap (noted number plan.queued) step.queued ∙ queue_with t.distance plan.file.row t.files.rows plan.queued number leads.told is
       ∙ ap (queue_of t.distance) (sym rows);
+  ordered = step.ordered;
+  untied = step.untied;
 }
 
 -- without files there are no words, none is near, and none waits

@@ -10,3 +10,5 @@ pub mod Refolding
 pub mod Rising
 pub mod Telling
 pub mod TreeMarks
+pub mod Pairing
+pub mod Related

@@ -87,7 +87,7 @@ pub record IsOfThere (r : Records) (m : Mapping) : Type 0 where
   pub service : has_service r m.service ≡ true
 
 -- what is left to be met of a mapping then
-there_does : (r : Records) (m : Mapping) → IsOfThere r m → does r (changes.Mapping m) ≡ guarded (is_met r) unmet (mapping_needs m m.state) (is_mapped_so r m)
+there_does : (r : Records) (m : Mapping) → IsOfThere r m → does r (changes.Mapping m) ≡ guarded (is_met r) (unmet r) (mapping_needs m m.state) (is_mapped_so r m)
 unfolding needs is_idle
 there_does r m there = rw (there.file, there.service) refl
 
@@ -108,12 +108,12 @@ taken_needs m (Some state) is = absurd (cc is)
 taken_needs m None is = refl
 
 set_does : (r : Records) (m : Mapping) → IsOfThere r m → is_some m.state ≡ true →
-    does r (changes.Mapping m) ≡ guarded (is_met r) unmet (room_for_tag m.tag ∷ room_for_mapping m ∷ []) (is_mapped_so r m)
-set_does r m there is = there_does r m there ∙ ap (λ (left : List Need). guarded (is_met r) unmet left (is_mapped_so r m)) (set_needs m m.state is)
+    does r (changes.Mapping m) ≡ guarded (is_met r) (unmet r) (room_for_tag m.tag ∷ room_for_mapping m ∷ []) (is_mapped_so r m)
+set_does r m there is = there_does r m there ∙ ap (λ (left : List Need). guarded (is_met r) (unmet r) left (is_mapped_so r m)) (set_needs m m.state is)
 
 taken_does : (r : Records) (m : Mapping) → IsOfThere r m → is_some m.state ≡ false →
-    does r (changes.Mapping m) ≡ guarded (is_met r) unmet (tag_there m.tag ∷ []) (is_mapped_so r m)
-taken_does r m there is = there_does r m there ∙ ap (λ (left : List Need). guarded (is_met r) unmet left (is_mapped_so r m)) (taken_needs m m.state is)
+    does r (changes.Mapping m) ≡ guarded (is_met r) (unmet r) (tag_there m.tag ∷ []) (is_mapped_so r m)
+taken_does r m there is = there_does r m there ∙ ap (λ (left : List Need). guarded (is_met r) (unmet r) left (is_mapped_so r m)) (taken_needs m m.state is)
 
 pub no_tag_room : (r : Records) (m : Mapping) → IsOfThere r m → is_some m.state ≡ true → is_met r (room_for_tag m.tag) ≡ false → does r (changes.Mapping m) ≡ Err whys.FullTags
 no_tag_room r m there is full = set_does r m there is ∙ rw full refl

@@ -5,6 +5,7 @@ pub mod Imports
 pub mod Pairs
 pub mod Preparing
 pub mod Searches
+pub mod Siblings
 pub mod Tables
 pub mod Tags
 pub use Rattle.library_machine.specs.Asking

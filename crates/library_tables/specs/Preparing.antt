@@ -21,6 +21,7 @@ use Rattle.library_tables.specs.Decisions.{LeadsDecide, LeadsUndo}
 use Rattle.library_tables.specs.Deletion.{LeadsLive}
 use Rattle.library_tables.specs.Imports.{LeadsImport, words_planned}
 use Rattle.library_tables.specs.Searches.{LeadsDistance, LeadsSearch}
+use Rattle.library_tables.specs.Siblings.{LeadsRemoval, LeadsSibling}
 use Rattle.library_tables.specs.Tables.{TablesView, records_of}
 use Rattle.library_tables.specs.Tags.{LeadsMapping, LeadsOrders, LeadsService}
 
@@ -35,6 +36,8 @@ Leads (plans.Search plan) t after = LeadsSearch plan t after
 Leads plans.Service t after = LeadsService t after
 Leads (plans.Orders plan) t after = LeadsOrders plan t after
 Leads (plans.Mapping plan) t after = LeadsMapping plan t after
+Leads (plans.SiblingAdded plan) t after = LeadsSibling plan t after
+Leads (plans.SiblingRemoved plan) t after = LeadsRemoval plan t after
 
 -- the words that a plan places in the tree: an import its new ones, all other plans none
 abbrev pub words_placed : TablesPlan → List Hash64

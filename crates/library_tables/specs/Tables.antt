@@ -1,5 +1,5 @@
 -- The tables of a library: what they record, and what keeps them in step.
-use Rattle.std.specs.Prelude.{◌≡◌, ℕ, List, length}
+use Rattle.std.specs.Prelude.{◌≡◌, ℕ, List, [], length, map}
 use Rattle.spare_tables.specs.Table.{Table}
 use Rattle.file_records.specs.Near.{near_pairs}
 use Rattle.file_records.specs.Living.{deleted}
@@ -17,6 +17,8 @@ use Rattle.vp_tree.specs.Marking.{MarkedTree}
 use Rattle.vp_tree.specs.Nodes.{words_in}
 use Rattle.tree_upkeep.specs.Marks.{AreNodes}
 use Rattle.tree_upkeep.specs.Queue.{Work}
+use Rattle.media_types.specs.declared.numbers.ServiceNo.{ServiceNo}
+use Rattle.sibling_chains.specs.Known.{Known}
 use Rattle.tag_types.specs.declared.orders.Orders.{Orders}
 use Rattle.tag_store.specs.Mapped.{Row}
 use Rattle.tag_store.specs.Numbering.{Numbered}
@@ -33,6 +35,7 @@ pub record TablesView : Type 0 where
   pub tags : Numbered
   pub services : List Orders
   pub mappings : Table Row
+  pub siblings : Known
 
 -- what the tables record
 abbrev pub records_of : TablesView → Records
@@ -43,6 +46,7 @@ records_of t = record {
   tags = t.tags.texts;
   services = t.services;
   mappings = t.mappings.rows;
+  siblings = t.siblings.rows;
 }
 
 -- a tree with the marks of its nodes
@@ -63,9 +67,14 @@ pub record ArePairsOf (R : Relations) (rows : List FileRow) (pairs : PairsView) 
   pub gone : pairs.gone ≡ deleted rows
   pub of : AreOf R pairs
 
+-- the services whose sibling pairs each service takes, in order
+abbrev pub sibling_orders : List Orders → List (List ServiceNo)
+sibling_orders services = map (λ orders. orders.siblings) services
+
 -- The tables speak of the same files, and the groups are those that the standing decisions make. The tree
 -- has the hashes of the files, by number, and marks are of its nodes. The pairs are those of the files and
--- groups, and the queue has the files that are to be searched.
+-- groups, and the queue has the files that are to be searched. The ideal tags are those that the services' orders
+-- make, and no other pairs tie tags together.
 pub record AreInStep (t : TablesView) : Type 0 where
   pub fits : Fits (records_of t)
   pub decided : t.book.files ≡ length t.files.rows
@@ -75,3 +84,5 @@ pub record AreInStep (t : TablesView) : Type 0 where
   pub marked : AreNodes t.tree.rows t.work.marks
   pub paired : ArePairsOf (relations_in t.groups) t.files.rows t.pairs.rows
   pub queued : t.work.queue ≡ queue_of t.distance t.files.rows
+  pub ordered : t.siblings.orders ≡ sibling_orders t.services
+  pub untied : t.siblings.ties ≡ []

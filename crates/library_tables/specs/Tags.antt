@@ -1,5 +1,5 @@
 -- What planned changes of services and mappings lead to.
-use Rattle.std.specs.Prelude.{◌≡◌, ◌<◌, ◌≤◌, ℕ, true, false, List, [], ◌∷◌, ◌++◌, length, Option, Some, None}
+use Rattle.std.specs.Prelude.{◌≡◌, ◌<◌, ◌≤◌, ℕ, true, false, List, [], ◌∷◌, ◌++◌, length, slice_set, Option, Some, None}
 use Rattle.media_types.specs.declared.numbers.TagNo.{TagNo}
 use Rattle.media_base.specs.declared.change.Mapping.{Mapping}
 use Rattle.media_base.specs.declared.reply.FileMappings.{FileMappings}
@@ -7,6 +7,8 @@ use Rattle.tag_types.specs.declared.map_state.MapState.{MapState}
 use Rattle.tag_types.specs.declared.map_state.MapState.TheVariants as states
 use Rattle.tag_types.specs.declared.limits.TheConstants.{MAX_SERVICES, MAX_TAGS}
 use Rattle.tag_store.specs.Numbering.{is_tag, number_or_next}
+use Rattle.sibling_chains.specs.Planning.{IsPlanFor}
+use Rattle.sibling_chains.specs.Planning.{after as siblings_after}
 use Rattle.library_machine.specs.Records.{Records, Fits}
 use Rattle.library_machine.specs.Tagging.{texts_with, with_mapping, with_orders, with_service}
 use Rattle.library_tables.specs.declared.tags.PlannedMapping.{PlannedMapping}
@@ -16,12 +18,15 @@ use Rattle.library_tables.specs.Tables.{TablesView, records_of}
 -- a service can be added, and then these are the records
 pub record LeadsService (t : TablesView) (after : Records) : Type 0 where
   pub few : length t.services < MAX_SERVICES
+  pub room : 1 ≤ t.siblings.service_room
   pub fits : Fits after
   pub leads : after ≡ with_service (records_of t)
 
 -- so can these orders be set
 pub record LeadsOrders (plan : PlannedOrders) (t : TablesView) (after : Records) : Type 0 where
   pub known : plan.service.0 < length t.services
+  pub planned : IsPlanFor plan.siblings t.siblings
+  pub chains : siblings_after plan.siblings t.siblings ≡ record t.siblings { orders = slice_set t.siblings.orders plan.service.0 plan.orders.siblings }
   pub fits : Fits after
   pub leads : after ≡ with_orders (records_of t) plan.service plan.orders
 

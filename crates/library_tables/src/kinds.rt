@@ -30,6 +30,7 @@ impl Tables {
             Query::PairCount(at_most) => Ok(Ok(self.tell_pair_count(*at_most))),
             Query::Queues => Ok(Ok(self.tell_queues())),
             Query::Mappings { service, file } => self.tell_mappings(*service, *file, steps),
+            Query::Ideal { service, tag } => self.tell_ideal(*service, tag),
         }
     }
 
@@ -56,8 +57,10 @@ impl Tables {
             Change::Distance(distance) => self.plan_distance(*distance, steps),
             Change::Searched(searching) => self.plan_search(searching, steps),
             Change::Service => self.plan_service(),
-            Change::Orders { service, orders } => self.plan_orders(*service, orders),
+            Change::Orders { service, orders } => self.plan_orders(*service, orders, steps),
             Change::Mapping(mapping) => self.plan_mapping(mapping, steps),
+            Change::SiblingAdded(pair) => self.plan_sibling(pair, steps),
+            Change::SiblingRemoved(pair) => self.plan_removal(pair, steps),
         }
     }
 

@@ -1,4 +1,4 @@
-ghost use Rattle.std.specs.Prelude.{◌≡◌, ◌≤◌, ◌+◌, [], OnErr, OnOk};
+ghost use Rattle.std.specs.Prelude.{◌≡◌, ◌≤◌, ◌+◌, [], IfOk, OnErr, OnOk};
 ghost use Rattle.vp_tree.specs.Building.{IsBuiltWhole};
 ghost use Rattle.vp_tree.specs.Marking.{ArePlaced, IsRebalanced};
 ghost use Rattle.tree_upkeep.specs.Marks.{marked_size};
@@ -8,11 +8,13 @@ ghost use Rattle.library_tables.specs.Preparing.{Leads, words_placed};
 ghost use Rattle.library_tables.specs.Tables.{HasWords, marked_tree, records_of};
 
 use crate::plan::TablesPlan;
+use crate::siblings::first_siblings;
 use decision_book::Book;
 use file_records::Files;
 use media_base::{FileNo, HashNo, NoMemory, SearchDistance, Steps};
 use potential_pairs::Pairs;
 use relation_groups::Groups;
+use sibling_chains::Siblings;
 use std::alloc::Global;
 use std::marker::Model;
 use std::sync::ledger::Ledger;
@@ -42,6 +44,8 @@ pub struct Tables {
     pub(crate) services: Services,
     /// The tags that are mapped to files.
     pub(crate) mappings: Mappings,
+    /// The sibling pairs of tags, and the ideal tags that they make.
+    pub(crate) siblings: Siblings,
 }
 
 impl Model for Tables {
@@ -60,6 +64,7 @@ impl Model for Tables {
       tags = t.tags;
       services = t.services;
       mappings = t.mappings;
+      siblings = t.siblings;
     } };
 
     ghost invariant = { λ t. AreInStep (record {
@@ -73,17 +78,19 @@ impl Model for Tables {
       tags = t.tags;
       services = t.services;
       mappings = t.mappings;
+      siblings = t.siblings;
     }) };
 }
 
 impl Tables {
-    /// Nothing is recorded. It takes no memory yet.
-    pub fn new(alloc: Global) -> Tables
-        ensures records { records_of result ≡ no_records }
-        ensures tree { result.tree.rows ≡ [] }
-        ensures marks { result.work.marks ≡ [] }
+    /// Nothing is recorded. It takes memory for one service.
+    pub fn new(alloc: Global) -> Result<Tables, NoMemory>
+        ensures records { IfOk result (λ tables. records_of tables ≡ no_records) }
+        ensures tree { IfOk result (λ tables. tables.tree.rows ≡ []) }
+        ensures marks { IfOk result (λ tables. tables.work.marks ≡ []) }
     {
-        Tables {
+        let siblings = first_siblings(alloc)?;
+        Ok(Tables {
             alloc,
             files: Files::new(alloc),
             book: Book::new(alloc),
@@ -95,7 +102,8 @@ impl Tables {
             tags: Tags::new(alloc),
             services: Services::new(),
             mappings: Mappings::new(alloc),
-        }
+            siblings,
+        })
     }
 
     pub(crate) fn has_file(&self, file: FileNo) -> bool
@@ -122,6 +130,8 @@ impl Tables {
             TablesPlan::Service => self.commit_service(),
             TablesPlan::Orders(plan) => self.commit_orders(plan),
             TablesPlan::Mapping(plan) => self.commit_mapping(plan),
+            TablesPlan::SiblingAdded(plan) => self.commit_sibling(plan),
+            TablesPlan::SiblingRemoved(plan) => self.commit_removal(plan),
         }
     }
 
@@ -139,7 +149,9 @@ impl Tables {
             | TablesPlan::Search(_)
             | TablesPlan::Service
             | TablesPlan::Orders(_)
-            | TablesPlan::Mapping(_) => {}
+            | TablesPlan::Mapping(_)
+            | TablesPlan::SiblingAdded(_)
+            | TablesPlan::SiblingRemoved(_) => {}
         }
     }
 

@@ -21,6 +21,7 @@ use media_base::{
     Answer, FileMappings, FileNo, MAX_MAPPINGS, MAX_SERVICES, MAX_TAGS, MapState, Mapped, Mapping,
     NoMemory, Orders, ServiceNo, Steps, TagNo, TagText, TagTextList, Unmet,
 };
+use sibling_chains::SiblingPlan;
 use std::sync::ledger::Ledger;
 
 /// Orders of a service that are ready to be set.
@@ -28,6 +29,7 @@ use std::sync::ledger::Ledger;
 pub struct PlannedOrders {
     pub(crate) service: ServiceNo,
     pub(crate) orders: Orders,
+    pub(crate) siblings: SiblingPlan,
 }
 
 /// A mapping that is ready to be set, or taken away.
@@ -58,14 +60,16 @@ impl Tables {
         if count >= MAX_SERVICES as u8 {
             return Ok(Unmet::FullServices.into());
         }
+        self.siblings.reserve_service()?;
         Ok(Prepared::Ready(TablesPlan::Service, Answer::Service(ServiceNo(count))))
     }
 
     #[tactic(auto, unfolding(library_machine::specs::Changing::needs, library_machine::specs::Changing::is_idle, library_machine::specs::Changing::effect, library_machine::specs::Changing::answer_to))]
-    pub(crate) fn plan_orders(
+    pub(crate) fn plan_orders<L: Ledger>(
         &mut self,
         service: ServiceNo,
         orders: &Orders,
+        steps: &mut Steps<L>,
     ) -> Result<Prepared, NoMemory>
         ensures records { records_of self.new ≡ records_of self.old }
         ensures tree { marked_tree self.new ≡ marked_tree self.old }
@@ -78,9 +82,11 @@ impl Tables {
         if *self.services.orders(service) == *orders {
             return Ok(Prepared::Idle(answer));
         }
+        let siblings = self.siblings.plan_order(service, &orders.siblings, steps)?;
         let plan = PlannedOrders {
             service,
             orders: *orders,
+            siblings,
         };
         Ok(Prepared::Ready(TablesPlan::Orders(plan), answer))
     }
@@ -177,7 +183,7 @@ impl Tables {
         Ok(Prepared::Ready(TablesPlan::Mapping(plan), answer))
     }
 
-    fn has_tag(&self, text: &TagText) -> bool
+    pub(crate) fn has_tag(&self, text: &TagText) -> bool
         ensures { result ≡ has_tag (records_of self.now) text.now }
     {
         self.tags.find(text).is_some()
@@ -200,10 +206,7 @@ impl Tables {
     fn numbered(&self, text: &TagText) -> TagNo
         ensures { result ≡ numbered (records_of self.now) text.now }
     {
-        match self.tags.find(text) {
-            Some(tag) => tag,
-            None => TagNo(self.tags.len()),
-        }
+        self.tags.number(text)
     }
 
     // How the tag is mapped to the file.
@@ -250,7 +253,7 @@ impl Tables {
         if self.has_tag(text) {
             return Ok(None);
         }
-        self.tags.reserve()?;
+        self.tags.reserve(1)?;
         Ok(Some(text.copied(self.alloc)?))
     }
 
@@ -261,6 +264,7 @@ impl Tables {
         ensures words { HasWords self.new.tree.rows (records_of self.new) }
     {
         self.services.add();
+        self.siblings.add_service();
     }
 
     pub(crate) fn commit_orders(&mut self, plan: PlannedOrders)
@@ -270,6 +274,7 @@ impl Tables {
         ensures words { HasWords self.new.tree.rows (records_of self.new) }
     {
         self.services.set(plan.service, plan.orders);
+        self.siblings.commit(plan.siblings);
     }
 
     pub(crate) fn commit_mapping(&mut self, plan: PlannedMapping)

@@ -19,11 +19,11 @@ number_or_next text texts = position_or_len (bytes_eq text) texts
 abbrev pub with_tag : List (List ℕ) → List ℕ → List (List ℕ)
 with_tag texts text = if is_tag text texts then texts else texts ++ text ∷ []
 
--- the number that a text has or would have, once another one is numbered
+-- the number that the second text has or would have, once the first is numbered
 abbrev pub number_behind : List ℕ → List ℕ → List (List ℕ) → ℕ
 number_behind first second texts = number_or_next second (with_tag texts first)
 
--- the text has no number then
+-- the second text has no number, once the first is numbered
 abbrev pub is_new_behind : List ℕ → List ℕ → List (List ℕ) → Bool
 is_new_behind first second texts = not (is_tag second (with_tag texts first))
 

@@ -2,7 +2,7 @@ ghost use Rattle.std.specs.Prelude.{◌≡◌, ◌+◌, ◌<◌, ◌≤◌, [], 
 ghost use Rattle.std.specs.Option.{option_map};
 ghost use Rattle.tag_types.specs.declared.limits.TheConstants.{MAX_TAGS};
 ghost use Rattle.tag_types.specs.Cleaning.{IsTag};
-ghost use Rattle.tag_store.specs.Numbering.{AreDistinctTexts, HasPlaceFor, number_of, number_or_next, with_tag};
+ghost use Rattle.tag_store.specs.Numbering.{AreDistinctTexts, HasPlaceFor, is_new_behind, number_behind, number_of, number_or_next, with_tag};
 
 use indexmap::IndexSet;
 use media_types::{NoMemory, TagNo};
@@ -73,13 +73,46 @@ impl Tags {
         self.index.get_index(tag.0 as usize).unwrap()
     }
 
-    /// Makes room for one more tag. Where there was none, it may move each tag.
-    pub fn reserve(&mut self) -> Result<(), NoMemory>
+    /// The number that the text has, or would have as the next one.
+    pub fn number(&self, text: &TagText) -> TagNo
+        ensures { result.0 ≡ number_or_next text.now self.now.texts }
+    {
+        match self.find(text) {
+            Some(tag) => tag,
+            None => TagNo(self.len()),
+        }
+    }
+
+    /// The number that the second text has or would have, once the first is numbered. Nothing changes.
+    pub fn number_behind(&self, first: &TagText, second: &TagText) -> TagNo
+        ensures { result.0 ≡ number_behind first.now second.now self.now.texts }
+    {
+        if !self.is_new_behind(first, second) {
+            return self.number(second);
+        }
+        match self.find(first) {
+            Some(_) => TagNo(self.len()),
+            None => TagNo(self.len() + 1),
+        }
+    }
+
+    /// Whether the second text has no number, once the first is numbered. Nothing changes.
+    pub fn is_new_behind(&self, first: &TagText, second: &TagText) -> bool
+        ensures { result ≡ is_new_behind first.now second.now self.now.texts }
+    {
+        match self.find(second) {
+            Some(_) => false,
+            None => second != first,
+        }
+    }
+
+    /// Makes room for this many more tags. Where there was less, it may move each tag.
+    pub fn reserve(&mut self, count: usize) -> Result<(), NoMemory>
         ensures texts { self.new.texts ≡ self.old.texts }
-        ensures ok { OnOk result (1 ≤ self.new.spare) }
+        ensures ok { OnOk result (count ≤ self.new.spare) }
         ensures spare { self.old.spare ≤ self.new.spare }
     {
-        self.index.reserve(1)?;
+        self.index.reserve(count)?;
         Ok(())
     }
 
@@ -108,7 +141,7 @@ impl Tags {
             return Ok(tag);
         }
         let copy = text.copied(self.alloc)?;
-        self.reserve()?;
+        self.reserve(1)?;
         Ok(self.insert(copy))
     }
 

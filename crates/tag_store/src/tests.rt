@@ -39,9 +39,36 @@ fn tags_are_numbered_by_first_use(rt: HostRuntime) -> Result<(), Fail> {
     tags.withdraw(1);
     assert_eq!(rt; tags.len(), 1);
     assert_eq!(rt; number(alloc, &tags, "blue")?, None);
-    tags.reserve()?;
+    tags.reserve(1)?;
     assert_eq!(rt; tags.insert(clean(alloc, "green")?), TagNo(1));
     assert_eq!(rt; number(alloc, &tags, "green")?, Some(1));
+    Ok(())
+}
+
+#[test]
+fn a_text_is_numbered_behind_another(rt: HostRuntime) -> Result<(), Fail> {
+    let alloc = rt.alloc();
+    let mut tags = used(alloc, &["red", "blue"])?;
+    assert_eq!(rt; tags.len(), 2);
+    // The first text, the second, the number of the second, that behind the first, and whether it is new then.
+    for (first, second, number, behind, is_new) in [
+        ("red", "blue", 1, 1, false),
+        ("red", "red", 0, 0, false),
+        ("red", "green", 2, 2, true),
+        ("green", "blue", 1, 1, false),
+        ("green", "green", 2, 2, false),
+        ("green", "grey", 2, 3, true),
+    ] {
+        let first = clean(alloc, first)?;
+        let second = clean(alloc, second)?;
+        assert_eq!(rt; tags.number(&second), TagNo(number));
+        assert_eq!(rt; tags.number_behind(&first, &second), TagNo(behind));
+        assert_eq!(rt; tags.is_new_behind(&first, &second), is_new);
+    }
+    tags.reserve(2)?;
+    assert_eq!(rt; tags.insert(clean(alloc, "green")?), TagNo(2));
+    assert_eq!(rt; tags.len(), 3);
+    assert_eq!(rt; tags.insert(clean(alloc, "grey")?), TagNo(3));
     Ok(())
 }
 

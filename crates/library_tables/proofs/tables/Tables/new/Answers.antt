@@ -19,5 +19,7 @@ invariant_of-result c = record {
     gone = c.new-5.ensures.gone ∙ sym (ap deleted c.new.ensures.rows);
     of = c.new-5.ensures.of _;
   };
+  ordered = c.in_ok-siblings.ensures.orders ∙ rw c.new-8.ensures refl;
+  untied = c.in_ok-siblings.ensures.ties;
   queued = rw (c.new.ensures.rows, c.new-6.ensures.queue) (sym (no_queue c.first.result));
 }

@@ -12,4 +12,6 @@ invariant_of-self g c = record {
   marked = marks_rebuilt (slice_get c.self.inside.upkeep.marks 0) _ _ c.self.invariant.marked c.commit_rebuild.ensures.rebalanced;
   paired = c.self.invariant.paired;
   queued = c.commit_rebuild.ensures.queue ∙ c.self.invariant.queued;
+  ordered = c.self.invariant.ordered;
+  untied = c.self.invariant.untied;
 }
