@@ -33,10 +33,15 @@ pub data CommandName : Type 0 where
   Map : CommandName
   Unmap : CommandName
   Mappings : CommandName
+  AddSibling : CommandName
+  RemoveSibling : CommandName
+  Ideal : CommandName
 
 -- the commands, in the order in which their names are tried, some ten in a list
 unfoldable pub tag_names : List CommandName
-tag_names = CommandName.AddService ∷ CommandName.Apply ∷ CommandName.Map ∷ CommandName.Unmap ∷ CommandName.Mappings ∷ []
+tag_names =
+    CommandName.AddService ∷ CommandName.Apply ∷ CommandName.Map ∷ CommandName.Unmap ∷ CommandName.Mappings ∷ CommandName.AddSibling ∷ CommandName.RemoveSibling ∷ CommandName.Ideal
+    ∷ []
 
 unfoldable pub search_names : List CommandName
 search_names =
@@ -129,4 +134,25 @@ request_of CommandName.Mappings = record {
   text = codes "mappings";
   fields = (fields.Service, a_service) ∷ (fields.File, a_file) ∷ [];
   asked = λ service file. asks (commands.Ask (queries.Mappings service file));
+}
+request_of CommandName.AddSibling = record {
+  text = codes "add_sibling";
+  fields = (fields.Service, a_service) ∷ (fields.Bad, a_text) ∷ (fields.Good, a_text) ∷ [];
+  asked = λ service bad_text good_text. do
+    bad ← is_tag bad_text
+    good ← is_tag good_text
+    asks (commands.Do (changes.SiblingAdded (record { service = service; first = bad; second = good })));
+}
+request_of CommandName.RemoveSibling = record {
+  text = codes "remove_sibling";
+  fields = (fields.Service, a_service) ∷ (fields.Bad, a_text) ∷ (fields.Good, a_text) ∷ [];
+  asked = λ service bad_text good_text. do
+    bad ← is_tag bad_text
+    good ← is_tag good_text
+    asks (commands.Do (changes.SiblingRemoved (record { service = service; first = bad; second = good })));
+}
+request_of CommandName.Ideal = record {
+  text = codes "ideal";
+  fields = (fields.Service, a_service) ∷ (fields.Tag, a_text) ∷ [];
+  asked = λ service text. is_tag text >>= (λ tag. asks (commands.Ask (queries.Ideal service tag)));
 }

@@ -8,7 +8,7 @@ ghost use Rattle.command_text.specs.Reading.{first_at};
 
 use crate::fields::{file, order, service, state, text};
 use media_base::{
-    Change, CleanFail, Command, FieldName, Mapping, Orders, Query, Refusal, TagText, clean,
+    Change, CleanFail, Command, FieldName, Mapping, Orders, Query, Refusal, TagPair, TagText, clean,
 };
 use serde_json::Value;
 use std::alloc::Global;
@@ -24,6 +24,9 @@ pub fn tag_command(alloc: Global, name: &str, request: &Value) -> Result<Command
         "map" => map_of(alloc, request),
         "unmap" => unmap_of(alloc, request),
         "mappings" => mappings_of(request),
+        "add_sibling" => add_sibling_of(alloc, request),
+        "remove_sibling" => remove_sibling_of(alloc, request),
+        "ideal" => ideal_of(alloc, request),
         _ => Err(Refusal::NotARequest(FieldName::Do)),
     }
 }
@@ -75,6 +78,45 @@ fn mappings_of(request: &Value) -> Result<Command, Refusal>
     let service = service(request, FieldName::Service)?;
     let file = file(request, FieldName::File)?;
     Ok(Command::Ask(Query::Mappings { service, file }))
+}
+
+fn add_sibling_of(alloc: Global, request: &Value) -> Result<Command, Refusal>
+    ensures { Gives result (read_request (request_of CommandName.AddSibling) (view request.now)) }
+{
+    let service = service(request, FieldName::Service)?;
+    let bad = text(request, FieldName::Bad)?;
+    let good = text(request, FieldName::Good)?;
+    let first = tag_of(alloc, bad)?;
+    let second = tag_of(alloc, good)?;
+    Ok(Command::Do(Change::SiblingAdded(TagPair {
+        service,
+        first,
+        second,
+    })))
+}
+
+fn remove_sibling_of(alloc: Global, request: &Value) -> Result<Command, Refusal>
+    ensures { Gives result (read_request (request_of CommandName.RemoveSibling) (view request.now)) }
+{
+    let service = service(request, FieldName::Service)?;
+    let bad = text(request, FieldName::Bad)?;
+    let good = text(request, FieldName::Good)?;
+    let first = tag_of(alloc, bad)?;
+    let second = tag_of(alloc, good)?;
+    Ok(Command::Do(Change::SiblingRemoved(TagPair {
+        service,
+        first,
+        second,
+    })))
+}
+
+fn ideal_of(alloc: Global, request: &Value) -> Result<Command, Refusal>
+    ensures { Gives result (read_request (request_of CommandName.Ideal) (view request.now)) }
+{
+    let service = service(request, FieldName::Service)?;
+    let said = text(request, FieldName::Tag)?;
+    let tag = tag_of(alloc, said)?;
+    Ok(Command::Ask(Query::Ideal { service, tag }))
 }
 
 #[tactic(auto, unfolding(crate::specs::Forms::tag_of))]

@@ -1,16 +1,13 @@
 -- The text of each reply: its fields, in their order.
-use Rattle.std.specs.Prelude.{ℕ, true, List, [], ◌∷◌, ◌++◌, codes, Option, Some, None, Ok, Err}
+use Rattle.std.specs.Prelude.{ℕ, true, List, [], ◌∷◌, ◌++◌, codes, Ok, Err}
 use Rattle.media_base.specs.declared.reply.Answer.{Answer}
 use Rattle.media_base.specs.declared.reply.Answer.TheVariants as answers
-use Rattle.media_base.specs.declared.refusal.FieldName.{FieldName}
+use Rattle.media_base.specs.declared.refusal.Refusal.{Refusal}
+use Rattle.media_base.specs.declared.refusal.Refusal.TheVariants as refusals
+use Rattle.media_base.specs.declared.refusal.Unmet.TheVariants as whys
 use Rattle.media_base.specs.Names as names
 use Rattle.media_base.specs.Replying.{Reply}
 use Rattle.reply_text.specs.Parts.{a_number, a_flag, a_text, tags, files, pairs, Field, object_text}
-
--- the field that a refusal blames
-abbrev pub blamed : Option FieldName → List Field
-blamed None = []
-blamed (Some field) = (codes "field", a_text (names.field_text field)) ∷ []
 
 abbrev pub answer_row : Answer → List Field
 answer_row (answers.Imported found) = (codes "file", a_number found.file.0) ∷ (codes "status", a_number (names.import_number found.status)) ∷ []
@@ -32,10 +29,18 @@ answer_row answers.Rebalanced = (codes "done", a_flag true) ∷ []
 answer_row (answers.Service service) = (codes "service", a_number service.0) ∷ []
 answer_row (answers.Mapped mapped) = (codes "tag", a_number mapped.tag.0) ∷ (codes "changed", a_flag mapped.changed) ∷ []
 answer_row (answers.Mappings found) = (codes "current", tags found.current) ∷ (codes "pending", tags found.pending) ∷ (codes "deleted", tags found.deleted) ∷ []
+answer_row (answers.Sibling pair) = (codes "bad", a_number pair.bad.0) ∷ (codes "good", a_number pair.good.0) ∷ []
+answer_row (answers.Ideal found) = (codes "ideal", a_text found.ideal) ∷ (codes "ancestors", tags found.ancestors) ∷ []
+
+-- what a refusal tells beside its name: the field that it blames, or the good tag that is known
+abbrev pub details : Refusal → List Field
+details (refusals.NotARequest field) = (codes "field", a_text (names.field_text field)) ∷ []
+details (refusals.Unmet (whys.PairKnown good)) = (codes "good", a_text good) ∷ []
+details refusal = []
 
 abbrev pub reply_row : Reply → List Field
 reply_row (Ok answer) = answer_row answer
-reply_row (Err refusal) = (codes "error", a_text (names.refusal_row refusal).text) ∷ blamed (names.refusal_row refusal).field
+reply_row (Err refusal) = (codes "error", a_text (names.refusal_row refusal).text) ∷ details refusal
 
 unfoldable pub reply_text : Reply → List ℕ
 reply_text reply = object_text (reply_row reply)

@@ -3,8 +3,9 @@ use crate::part::{Field, Part, put_object};
 use crate::{put_reply_line, reply_len, write_reply};
 use media_base::{
     Answer, BytesSink, CallList, Code, Decision, DecisionNo, FieldName, FileList, FileMappings,
-    FileNo, FileRelations, Gather, ImportStatus, Imported, Mapped, PairList, QueueLengths, Refusal,
-    Reply, SearchCounts, SearchDistance, ServiceNo, TagNo, TagTextList, Unmet, clean,
+    FileNo, FileRelations, Gather, IdealTag, ImportStatus, Imported, Mapped, PairList,
+    QueueLengths, Refusal, Reply, SearchCounts, SearchDistance, ServiceNo, SiblingTags, TagNo,
+    TagTextList, Unmet, clean,
 };
 use std::alloc::Global;
 use std::process::Abort;
@@ -186,87 +187,100 @@ fn decisions_are_told(rt: HostRuntime) -> Result<(), Fail> {
     assert_texts(&rt, rt.alloc(), &cases)
 }
 
-fn assert_refusals(rt: &impl Abort, alloc: Global, cases: &[(Refusal, &str)]) -> Result<(), Fail> {
-    for (refusal, want) in cases {
-        assert_text(rt, alloc, &Err(*refusal), want)?;
-    }
-    Ok(())
-}
-
 #[test]
 fn refusals_are_written(rt: HostRuntime) -> Result<(), Fail> {
     let cases = [
-        (Refusal::LineTooLong, "{\"error\":\"line_too_long\"}"),
-        (Refusal::NotJson, "{\"error\":\"not_json\"}"),
+        (Err(Refusal::LineTooLong), "{\"error\":\"line_too_long\"}"),
+        (Err(Refusal::NotJson), "{\"error\":\"not_json\"}"),
         (
-            Refusal::NotARequest(FieldName::Do),
+            Err(Refusal::NotARequest(FieldName::Do)),
             "{\"error\":\"not_a_request\",\"field\":\"do\"}",
         ),
         (
-            Refusal::NotARequest(FieldName::Sha256),
+            Err(Refusal::NotARequest(FieldName::Sha256)),
             "{\"error\":\"not_a_request\",\"field\":\"sha256\"}",
         ),
         (
-            Refusal::NotARequest(FieldName::Decision),
+            Err(Refusal::NotARequest(FieldName::Decision)),
             "{\"error\":\"not_a_request\",\"field\":\"decision\"}",
         ),
         (
-            Refusal::NotARequest(FieldName::N),
+            Err(Refusal::NotARequest(FieldName::N)),
             "{\"error\":\"not_a_request\",\"field\":\"n\"}",
         ),
         (
-            Refusal::NotARequest(FieldName::AfterK),
+            Err(Refusal::NotARequest(FieldName::AfterK)),
             "{\"error\":\"not_a_request\",\"field\":\"after_k\"}",
         ),
-        (Refusal::BadHash, "{\"error\":\"bad_hash\"}"),
-        (Refusal::TooManyHashes, "{\"error\":\"too_many_hashes\"}"),
-        (Refusal::BadTag, "{\"error\":\"bad_tag\"}"),
-        (Refusal::BadDistance, "{\"error\":\"bad_distance\"}"),
-        (Refusal::BadNumber, "{\"error\":\"bad_number\"}"),
+        (Err(Refusal::BadHash), "{\"error\":\"bad_hash\"}"),
         (
-            Refusal::Unmet(Unmet::UnknownFile),
+            Err(Refusal::TooManyHashes),
+            "{\"error\":\"too_many_hashes\"}",
+        ),
+        (Err(Refusal::BadTag), "{\"error\":\"bad_tag\"}"),
+        (Err(Refusal::BadDistance), "{\"error\":\"bad_distance\"}"),
+        (Err(Refusal::BadNumber), "{\"error\":\"bad_number\"}"),
+        (
+            Err(Refusal::Unmet(Unmet::UnknownFile)),
             "{\"error\":\"unknown_file\"}",
         ),
-        (Refusal::Unmet(Unmet::SameFile), "{\"error\":\"same_file\"}"),
         (
-            Refusal::Unmet(Unmet::UnknownDecision),
+            Err(Refusal::Unmet(Unmet::SameFile)),
+            "{\"error\":\"same_file\"}",
+        ),
+        (
+            Err(Refusal::Unmet(Unmet::UnknownDecision)),
             "{\"error\":\"unknown_decision\"}",
         ),
         (
-            Refusal::Unmet(Unmet::AlreadyUndone),
+            Err(Refusal::Unmet(Unmet::AlreadyUndone)),
             "{\"error\":\"already_undone\"}",
         ),
         (
-            Refusal::Unmet(Unmet::FullFiles),
+            Err(Refusal::Unmet(Unmet::FullFiles)),
             "{\"error\":\"full_files\"}",
         ),
-        (Refusal::Unmet(Unmet::FullNear), "{\"error\":\"full_near\"}"),
         (
-            Refusal::Unmet(Unmet::FullDecisions),
+            Err(Refusal::Unmet(Unmet::FullNear)),
+            "{\"error\":\"full_near\"}",
+        ),
+        (
+            Err(Refusal::Unmet(Unmet::FullDecisions)),
             "{\"error\":\"full_decisions\"}",
         ),
         (
-            Refusal::Unmet(Unmet::UnknownService),
+            Err(Refusal::Unmet(Unmet::UnknownService)),
             "{\"error\":\"unknown_service\"}",
         ),
         (
-            Refusal::Unmet(Unmet::UnknownTag),
+            Err(Refusal::Unmet(Unmet::UnknownTag)),
             "{\"error\":\"unknown_tag\"}",
         ),
-        (Refusal::Unmet(Unmet::FullTags), "{\"error\":\"full_tags\"}"),
         (
-            Refusal::Unmet(Unmet::FullMappings),
+            Err(Refusal::Unmet(Unmet::FullTags)),
+            "{\"error\":\"full_tags\"}",
+        ),
+        (
+            Err(Refusal::Unmet(Unmet::FullMappings)),
             "{\"error\":\"full_mappings\"}",
         ),
         (
-            Refusal::Unmet(Unmet::FullServices),
+            Err(Refusal::Unmet(Unmet::FullServices)),
             "{\"error\":\"full_services\"}",
         ),
-        (Refusal::NoMemory, "{\"error\":\"no_memory\"}"),
-        (Refusal::JournalFull, "{\"error\":\"journal_full\"}"),
-        (Refusal::NotKept, "{\"error\":\"not_kept\"}"),
+        (
+            Err(Refusal::Unmet(Unmet::UnknownPair)),
+            "{\"error\":\"unknown_pair\"}",
+        ),
+        (
+            Err(Refusal::Unmet(Unmet::FullRelations)),
+            "{\"error\":\"full_relations\"}",
+        ),
+        (Err(Refusal::NoMemory), "{\"error\":\"no_memory\"}"),
+        (Err(Refusal::JournalFull), "{\"error\":\"journal_full\"}"),
+        (Err(Refusal::NotKept), "{\"error\":\"not_kept\"}"),
     ];
-    assert_refusals(&rt, rt.alloc(), &cases)
+    assert_texts(&rt, rt.alloc(), &cases)
 }
 
 #[test]
@@ -370,13 +384,62 @@ fn tags_are_answered(rt: HostRuntime) -> Result<(), Fail> {
         let tag = TagNo(tag);
         Ok(Answer::Mapped(Mapped { tag, changed }))
     };
+    let pair = |bad, good| {
+        let (bad, good) = (TagNo(bad), TagNo(good));
+        Ok(Answer::Sibling(SiblingTags { bad, good }))
+    };
     let cases = [
         (Ok(Answer::Service(ServiceNo(0))), "{\"service\":0}"),
         (Ok(Answer::Service(ServiceNo(255))), "{\"service\":255}"),
         (mapped(0, true), "{\"tag\":0,\"changed\":true}"),
         (mapped(999_999, false), "{\"tag\":999999,\"changed\":false}"),
+        (pair(0, 1), "{\"bad\":0,\"good\":1}"),
+        (pair(999_999, 12), "{\"bad\":999999,\"good\":12}"),
     ];
     assert_texts(&rt, rt.alloc(), &cases)
+}
+
+fn assert_ideal(
+    rt: &impl Abort,
+    alloc: Global,
+    tag: &str,
+    ancestors: &[&str],
+    want: &str,
+) -> Result<(), Fail> {
+    let ideal = clean(alloc, tag)?;
+    let ancestors = tags(alloc, ancestors)?;
+    let reply = Ok(Answer::Ideal(IdealTag { ideal, ancestors }));
+    assert_text(rt, alloc, &reply, want)
+}
+
+// The texts in quotes are those that Python's json writes.
+#[test]
+fn ideal_tags_are_answered(rt: HostRuntime) -> Result<(), Fail> {
+    let alloc = rt.alloc();
+    let alone = "{\"ideal\":\"a\",\"ancestors\":[]}";
+    assert_ideal(&rt, alloc, "a", &[], alone)?;
+    let two = "{\"ideal\":\"d \\\"q\\\"\",\"ancestors\":[\"x\",\"y\"]}";
+    assert_ideal(&rt, alloc, "d \"q\"", &["x", "y"], two)?;
+    let escaped = "{\"ideal\":\"\\u001f\",\"ancestors\":[\"\\\\\",\"é𝄞\"]}";
+    assert_ideal(&rt, alloc, "\u{1f}", &["\\", "é𝄞"], escaped)
+}
+
+fn assert_known_pair(rt: &impl Abort, alloc: Global, good: &str, want: &str) -> Result<(), Fail> {
+    let good = clean(alloc, good)?;
+    assert_text(
+        rt,
+        alloc,
+        &Err(Refusal::Unmet(Unmet::PairKnown(good))),
+        want,
+    )
+}
+
+#[test]
+fn known_pairs_are_told(rt: HostRuntime) -> Result<(), Fail> {
+    let plain = "{\"error\":\"pair_known\",\"good\":\"b\"}";
+    assert_known_pair(&rt, rt.alloc(), "b", plain)?;
+    let escaped = "{\"error\":\"pair_known\",\"good\":\"creator:\\\"e\\\"\"}";
+    assert_known_pair(&rt, rt.alloc(), "creator:\"e\"", escaped)
 }
 
 // The texts in quotes are those that Python's json writes.

@@ -1,4 +1,4 @@
-ghost use Rattle.std.specs.Prelude.{◌≡◌, ◌-◌, ◌^◌, min, length};
+ghost use Rattle.std.specs.Prelude.{◌≡◌, ◌-◌, ◌^◌, min, length, Err};
 ghost use Rattle.media_types.specs.Cause.{HasCause, failed};
 ghost use Rattle.media_base.specs.Names as names;
 ghost use Rattle.media_base.specs.Transfer.{Gathers, Sends};
@@ -6,7 +6,7 @@ ghost use Rattle.reply_text.specs.ReplyText.{reply_text, reply_line};
 
 use crate::out::{Count, Out};
 use crate::part::{Field, Part, put_object};
-use media_base::{Answer, Code, Failed, Gather, ImportStatus, Reply, Sink};
+use media_base::{Answer, Code, Failed, Gather, ImportStatus, Refusal, Reply, Sink, Unmet};
 
 /// Writes the reply's text, without a line feed. A text of up to 4,096 bytes goes out in one write, and
 /// a longer one in pieces of up to as many. It takes no memory.
@@ -98,13 +98,31 @@ fn put_reply<W, O: Out<W>>(reply: &Reply, out: &mut O, sink: &mut W) -> Result<(
             ("pending", Part::Tags(found.pending.as_slice())),
             ("deleted", Part::Tags(found.deleted.as_slice())),
         ]),
-        Err(refusal) => match refusal.field() {
-            None => put(&[("error", Part::Text(refusal.text()))]),
-            Some(field) => put(&[
-                ("error", Part::Text(refusal.text())),
-                ("field", Part::Text(field.text())),
-            ]),
-        },
+        Ok(Answer::Sibling(pair)) => put(&[
+            ("bad", Part::Number(u64::from(pair.bad.0))),
+            ("good", Part::Number(u64::from(pair.good.0))),
+        ]),
+        Ok(Answer::Ideal(found)) => put(&[
+            ("ideal", Part::Text(found.ideal.as_str())),
+            ("ancestors", Part::Tags(found.ancestors.as_slice())),
+        ]),
+        Err(refusal) => put_refusal(refusal, out, sink),
+    }
+}
+
+#[tactic(auto, unfolding(crate::specs::ReplyText::reply_text))]
+fn put_refusal<W, O: Out<W>>(refusal: &Refusal, out: &mut O, sink: &mut W) -> Result<(), Failed>
+    ensures { O.Puts out.old sink.old out.new sink.new (reply_text (Err refusal.now)) result }
+{
+    let error = ("error", Part::Text(refusal.text()));
+    match refusal {
+        Refusal::NotARequest(field) => {
+            put_object(&[error, ("field", Part::Text(field.text()))], out, sink)
+        }
+        Refusal::Unmet(Unmet::PairKnown(good)) => {
+            put_object(&[error, ("good", Part::Text(good.as_str()))], out, sink)
+        }
+        _ => put_object(&[error], out, sink),
     }
 }
 

@@ -1,5 +1,5 @@
-use super::{DECIDE, assert_all_faulty, assert_refused, read_pieces};
-use media_base::{Change, Code, Command, Decision, DecisionNo, FieldName, FileNo, Query, Refusal};
+use super::{DECIDE, assert_all_faulty, assert_faulty, read_pieces};
+use media_base::{Change, Code, Command, Decision, DecisionNo, FieldName, FileNo, Query};
 use std::test::Fail;
 
 #[test]
@@ -37,9 +37,9 @@ fn faulty_numbers_of_decisions_are_refused(rt: HostRuntime) -> Result<(), Fail> 
     ];
     assert_all_faulty(&rt, rt.alloc(), "{\"do\":\"undo\"", &cases)?;
     assert_all_faulty(&rt, rt.alloc(), "{\"do\":\"decision\"", &cases)?;
-    let want = Refusal::NotARequest(FieldName::Decision);
-    assert_refused(&rt, rt.alloc(), b"{\"do\":\"undo\"}", want);
-    assert_refused(&rt, rt.alloc(), b"{\"do\":\"decision\"}", want);
+    let field = FieldName::Decision;
+    assert_faulty(&rt, rt.alloc(), b"{\"do\":\"undo\"}", field);
+    assert_faulty(&rt, rt.alloc(), b"{\"do\":\"decision\"}", field);
     Ok(())
 }
 

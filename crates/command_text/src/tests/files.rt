@@ -1,5 +1,5 @@
-use super::{assert_all_faulty, assert_refused, read_pieces};
-use media_base::{Change, Command, FieldName, FileNo, Query, Refusal};
+use super::{assert_all_faulty, assert_faulty, read_pieces};
+use media_base::{Change, Command, FieldName, FileNo, Query};
 use std::test::Fail;
 
 #[test]
@@ -28,10 +28,10 @@ fn faulty_files_are_refused(rt: HostRuntime) -> Result<(), Fail> {
 
 #[test]
 fn a_file_is_asked_for(rt: HostRuntime) {
-    let want = Refusal::NotARequest(FieldName::File);
-    assert_refused(&rt, rt.alloc(), b"{\"do\":\"delete\"}", want);
-    assert_refused(&rt, rt.alloc(), b"{\"do\":\"undelete\"}", want);
-    assert_refused(&rt, rt.alloc(), b"{\"do\":\"relations\"}", want);
+    let field = FieldName::File;
+    assert_faulty(&rt, rt.alloc(), b"{\"do\":\"delete\"}", field);
+    assert_faulty(&rt, rt.alloc(), b"{\"do\":\"undelete\"}", field);
+    assert_faulty(&rt, rt.alloc(), b"{\"do\":\"relations\"}", field);
 }
 
 const NUMBERS: [(&str, FileNo); 4] = [

@@ -55,7 +55,7 @@ fn assert_bad_digits(
 ) -> Result<(), Fail> {
     for end in ends {
         let line = format!(in alloc; "{IMPORT},\"sha256\":\"{front}{end}\"}}")?;
-        assert_refused(rt, alloc, line.as_bytes(), Refusal::BadHash);
+        assert_refused(rt, alloc, line.as_bytes(), &Refusal::BadHash);
     }
     Ok(())
 }
@@ -101,7 +101,7 @@ fn other_than_sixteen_digits_are_a_bad_hash(rt: HostRuntime) -> Result<(), Fail>
     ];
     for text in texts {
         let line = format!(in rt.alloc(); "{IMPORT},\"hashes\":[\"{text}\"]}}")?;
-        assert_refused(&rt, rt.alloc(), line.as_bytes(), Refusal::BadHash);
+        assert_refused(&rt, rt.alloc(), line.as_bytes(), &Refusal::BadHash);
     }
     Ok(())
 }
@@ -109,20 +109,16 @@ fn other_than_sixteen_digits_are_a_bad_hash(rt: HostRuntime) -> Result<(), Fail>
 // A bad hash is told before their number, wherever it stands.
 #[test]
 fn more_than_four_hashes_are_refused(rt: HostRuntime) -> Result<(), Fail> {
+    let too_many = &Refusal::TooManyHashes;
+    let bad_hash = &Refusal::BadHash;
     let cases = [
-        (",\"00000000000000aa\"", Refusal::TooManyHashes),
-        (
-            ",\"00000000000000aa\",\"00000000000000ab\"",
-            Refusal::TooManyHashes,
-        ),
-        (",\"0\"", Refusal::BadHash),
-        (",\"00000000000000aa\",\"0\"", Refusal::BadHash),
-        (",\"0\",\"00000000000000aa\"", Refusal::BadHash),
-        ("],\"sha256\":\"00\",\"x\":[", Refusal::BadHash),
-        (
-            ",\"00000000000000aa\"],\"sha256\":\"00\",\"x\":[",
-            Refusal::BadHash,
-        ),
+        (",\"00000000000000aa\"", too_many),
+        (",\"00000000000000aa\",\"00000000000000ab\"", too_many),
+        (",\"0\"", bad_hash),
+        (",\"00000000000000aa\",\"0\"", bad_hash),
+        (",\"0\",\"00000000000000aa\"", bad_hash),
+        ("],\"sha256\":\"00\",\"x\":[", bad_hash),
+        (",\"00000000000000aa\"],\"sha256\":\"00\",\"x\":[", bad_hash),
     ];
     for (more, want) in cases {
         let line = format!(in rt.alloc(); "{IMPORT},\"hashes\":[{FOUR}{more}]}}")?;

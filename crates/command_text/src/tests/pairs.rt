@@ -1,6 +1,7 @@
 use super::{assert_all_faulty, assert_all_refused, read_pieces};
-use crate::read_line;
-use media_base::{Command, FieldName, FileNo, Query, Refusal};
+use media_base::{Command, FieldName, FileNo, PairPage, Query, Refusal};
+use std::alloc::Global;
+use std::process::Abort;
 use std::test::Fail;
 
 #[test]
@@ -29,8 +30,10 @@ fn faulty_places_are_refused(rt: HostRuntime) -> Result<(), Fail> {
 // The forms come first, then the distance, then the number of pairs.
 #[test]
 fn faulty_pages_are_refused(rt: HostRuntime) -> Result<(), Fail> {
-    let no_number = Refusal::NotARequest(FieldName::N);
-    let no_distance = Refusal::NotARequest(FieldName::AtMost);
+    let no_number = &Refusal::NotARequest(FieldName::N);
+    let no_distance = &Refusal::NotARequest(FieldName::AtMost);
+    let bad_distance = &Refusal::BadDistance;
+    let bad_number = &Refusal::BadNumber;
     let cases = [
         ("\"at_most\":8", no_number),
         ("\"n\":null,\"at_most\":\"8\"", no_number),
@@ -41,22 +44,26 @@ fn faulty_pages_are_refused(rt: HostRuntime) -> Result<(), Fail> {
         ("\"n\":1,\"at_most\":null", no_distance),
         ("\"n\":1,\"at_most\":-0", no_distance),
         ("\"n\":1,\"at_most\":18446744073709551616", no_distance),
-        ("\"n\":1,\"at_most\":17", Refusal::BadDistance),
-        ("\"n\":0,\"at_most\":17", Refusal::BadDistance),
-        (
-            "\"n\":1,\"at_most\":18446744073709551615",
-            Refusal::BadDistance,
-        ),
-        ("\"n\":0,\"at_most\":16", Refusal::BadNumber),
-        ("\"n\":1025,\"at_most\":16", Refusal::BadNumber),
-        (
-            "\"n\":18446744073709551615,\"at_most\":0",
-            Refusal::BadNumber,
-        ),
+        ("\"n\":1,\"at_most\":17", bad_distance),
+        ("\"n\":0,\"at_most\":17", bad_distance),
+        ("\"n\":1,\"at_most\":18446744073709551615", bad_distance),
+        ("\"n\":0,\"at_most\":16", bad_number),
+        ("\"n\":1025,\"at_most\":16", bad_number),
+        ("\"n\":18446744073709551615,\"at_most\":0", bad_number),
     ];
     assert_all_refused(&rt, rt.alloc(), "{\"do\":\"pairs\"", &cases)?;
     let behind = "{\"do\":\"pairs\",\"after_j\":0,\"after_k\":0";
     assert_all_refused(&rt, rt.alloc(), behind, &cases)
+}
+
+fn page_of(rt: &impl Abort, alloc: Global, fields: &str) -> Result<PairPage, Fail> {
+    let Command::Ask(query) = read_pieces(alloc, "{\"do\":\"pairs\",", fields, "}")? else {
+        panic!(rt; "no question: {fields}")
+    };
+    match query {
+        Query::Pairs(page) => Ok(page),
+        _ => panic!(rt; "no pairs: {fields}"),
+    }
 }
 
 // A place may be of any two numbers.
@@ -97,30 +104,26 @@ fn pages_are_read(rt: HostRuntime) -> Result<(), Fail> {
         ),
     ];
     for (fields, after, n, at_most) in cases {
-        let line = format!(in rt.alloc(); "{{\"do\":\"pairs\",{fields}}}")?;
-        match read_line(rt.alloc(), line.as_bytes())? {
-            Command::Ask(Query::Pairs(page)) => {
-                assert_eq!(rt; page.after, after);
-                assert_eq!(rt; page.n.number(), n);
-                assert_eq!(rt; page.at_most.bits(), at_most);
-            }
-            _ => panic!(rt; "no pairs: {line}"),
-        }
+        let page = page_of(&rt, rt.alloc(), fields)?;
+        assert_eq!(rt; page.after, after);
+        assert_eq!(rt; page.n.number(), n);
+        assert_eq!(rt; page.at_most.bits(), at_most);
     }
     Ok(())
 }
 
 #[test]
 fn faulty_counts_are_refused(rt: HostRuntime) -> Result<(), Fail> {
-    let faulty = Refusal::NotARequest(FieldName::AtMost);
+    let faulty = &Refusal::NotARequest(FieldName::AtMost);
+    let bad_distance = &Refusal::BadDistance;
     let cases = [
         ("\"distance\":8", faulty),
         ("\"at_most\":null", faulty),
         ("\"at_most\":[8]", faulty),
         ("\"at_most\":8.0", faulty),
         ("\"at_most\":18446744073709551616", faulty),
-        ("\"at_most\":17", Refusal::BadDistance),
-        ("\"at_most\":18446744073709551615", Refusal::BadDistance),
+        ("\"at_most\":17", bad_distance),
+        ("\"at_most\":18446744073709551615", bad_distance),
     ];
     assert_all_refused(&rt, rt.alloc(), "{\"do\":\"pair_count\"", &cases)
 }

@@ -1,4 +1,4 @@
-use super::{assert_all_refused, assert_refused, read_pieces};
+use super::{assert_all_refused, assert_faulty, assert_refused, read_pieces};
 use media_base::{Change, Command, FieldName, FileNo, Job, Query, Refusal, Searching, Upkeep};
 use std::alloc::{AllocError, Global};
 use std::process::Abort;
@@ -6,7 +6,8 @@ use std::test::Fail;
 
 #[test]
 fn faulty_distances_are_refused(rt: HostRuntime) -> Result<(), Fail> {
-    let faulty = Refusal::NotARequest(FieldName::Distance);
+    let faulty = &Refusal::NotARequest(FieldName::Distance);
+    let bad_distance = &Refusal::BadDistance;
     let cases = [
         ("\"Distance\":8", faulty),
         ("\"distance\":\"8\"", faulty),
@@ -16,20 +17,22 @@ fn faulty_distances_are_refused(rt: HostRuntime) -> Result<(), Fail> {
         ("\"distance\":-0", faulty),
         ("\"distance\":8.0", faulty),
         ("\"distance\":18446744073709551616", faulty),
-        ("\"distance\":17", Refusal::BadDistance),
-        ("\"distance\":4294967304", Refusal::BadDistance),
-        ("\"distance\":18446744073709551615", Refusal::BadDistance),
+        ("\"distance\":17", bad_distance),
+        ("\"distance\":4294967304", bad_distance),
+        ("\"distance\":18446744073709551615", bad_distance),
     ];
     assert_all_refused(&rt, rt.alloc(), "{\"do\":\"search_distance\"", &cases)?;
     let searching = "{\"do\":\"search_files\",\"files\":[]";
     assert_all_refused(&rt, rt.alloc(), searching, &cases)?;
-    assert_refused(&rt, rt.alloc(), b"{\"do\":\"search_distance\"}", faulty);
+    let alone = b"{\"do\":\"search_distance\"}";
+    assert_faulty(&rt, rt.alloc(), alone, FieldName::Distance);
     Ok(())
 }
 
 #[test]
 fn faulty_search_jobs_are_refused(rt: HostRuntime) -> Result<(), Fail> {
-    let faulty = Refusal::NotARequest(FieldName::N);
+    let faulty = &Refusal::NotARequest(FieldName::N);
+    let bad_number = &Refusal::BadNumber;
     let cases = [
         ("\"distance\":8", faulty),
         ("\"n\":\"1\"", faulty),
@@ -38,10 +41,10 @@ fn faulty_search_jobs_are_refused(rt: HostRuntime) -> Result<(), Fail> {
         ("\"n\":1.5", faulty),
         ("\"n\":1e0", faulty),
         ("\"n\":18446744073709551616", faulty),
-        ("\"n\":0", Refusal::BadNumber),
-        ("\"n\":1025", Refusal::BadNumber),
-        ("\"n\":4294967297", Refusal::BadNumber),
-        ("\"n\":18446744073709551615", Refusal::BadNumber),
+        ("\"n\":0", bad_number),
+        ("\"n\":1025", bad_number),
+        ("\"n\":4294967297", bad_number),
+        ("\"n\":18446744073709551615", bad_number),
     ];
     assert_all_refused(&rt, rt.alloc(), "{\"do\":\"search_job\"", &cases)
 }
@@ -49,7 +52,10 @@ fn faulty_search_jobs_are_refused(rt: HostRuntime) -> Result<(), Fail> {
 // The forms come first, then the distance, then the number of files.
 #[test]
 fn faulty_searches_of_files_are_refused(rt: HostRuntime) -> Result<(), Fail> {
-    let faulty = Refusal::NotARequest(FieldName::Files);
+    let faulty = &Refusal::NotARequest(FieldName::Files);
+    let no_distance = &Refusal::NotARequest(FieldName::Distance);
+    let bad_distance = &Refusal::BadDistance;
+    let bad_number = &Refusal::BadNumber;
     let cases = [
         ("\"distance\":8", faulty),
         ("\"files\":null,\"distance\":8", faulty),
@@ -64,11 +70,11 @@ fn faulty_searches_of_files_are_refused(rt: HostRuntime) -> Result<(), Fail> {
         ("\"files\":[4294967296],\"distance\":8", faulty),
         ("\"files\":[7,8,\"9\"],\"distance\":17", faulty),
         ("\"files\":[\"9\"]", faulty),
-        ("\"files\":[7]", Refusal::NotARequest(FieldName::Distance)),
-        ("\"files\":[]", Refusal::NotARequest(FieldName::Distance)),
-        ("\"files\":[],\"distance\":17", Refusal::BadDistance),
-        ("\"files\":[7],\"distance\":17", Refusal::BadDistance),
-        ("\"files\":[],\"distance\":16", Refusal::BadNumber),
+        ("\"files\":[7]", no_distance),
+        ("\"files\":[]", no_distance),
+        ("\"files\":[],\"distance\":17", bad_distance),
+        ("\"files\":[7],\"distance\":17", bad_distance),
+        ("\"files\":[],\"distance\":16", bad_number),
     ];
     assert_all_refused(&rt, rt.alloc(), "{\"do\":\"search_files\"", &cases)
 }
@@ -138,7 +144,7 @@ fn searches_of_files_are_read(rt: HostRuntime) -> Result<(), Fail> {
         assert_searches_up_to(&rt, rt.alloc(), last)?;
     }
     let many = search_up_to(rt.alloc(), 1_024)?;
-    assert_refused(&rt, rt.alloc(), many.as_bytes(), Refusal::BadNumber);
+    assert_refused(&rt, rt.alloc(), many.as_bytes(), &Refusal::BadNumber);
     Ok(())
 }
 

@@ -1,6 +1,6 @@
-use super::{assert_all_faulty, assert_all_refused, assert_refused, read_pieces};
+use super::{assert_all_faulty, assert_all_refused, assert_faulty, assert_refused, read_pieces};
 use media_base::{
-    Change, Command, FieldName, FileNo, MapState, Mapping, Query, Refusal, ServiceNo,
+    Change, Command, FieldName, FileNo, MapState, Mapping, Query, Refusal, ServiceNo, TagPair,
 };
 use std::alloc::Global;
 use std::process::Abort;
@@ -9,6 +9,22 @@ use std::test::Fail;
 const MAP: &str = r#"{"do":"map","service":1,"file":7,"state":"pending""#;
 
 const UNMAP: &str = r#"{"do":"unmap","service":1,"file":7"#;
+
+const ADD_SIBLING: &str = r#"{"do":"add_sibling","service":1"#;
+
+const REMOVE_SIBLING: &str = r#"{"service":1,"tag":0,"do":"remove_sibling""#;
+
+const IDEAL: &str = r#"{"do":"ideal","file":null,"service":1"#;
+
+const SERVICE_COMMANDS: [&str; 7] = [
+    "apply",
+    "map",
+    "unmap",
+    "mappings",
+    "add_sibling",
+    "remove_sibling",
+    "ideal",
+];
 
 #[test]
 fn faulty_services_are_refused(rt: HostRuntime) -> Result<(), Fail> {
@@ -26,12 +42,11 @@ fn faulty_services_are_refused(rt: HostRuntime) -> Result<(), Fail> {
         ("\"service\":18446744073709551616", FieldName::Service),
         ("\"service\":1,\"service\":null", FieldName::Service),
     ];
-    for name in ["apply", "map", "unmap", "mappings"] {
+    for name in SERVICE_COMMANDS {
         let front = format!(in rt.alloc(); "{{\"do\":\"{name}\"")?;
         assert_all_faulty(&rt, rt.alloc(), &front, &cases)?;
         let alone = format!(in rt.alloc(); "{front}}}")?;
-        let want = Refusal::NotARequest(FieldName::Service);
-        assert_refused(&rt, rt.alloc(), alone.as_bytes(), want);
+        assert_faulty(&rt, rt.alloc(), alone.as_bytes(), FieldName::Service);
     }
     Ok(())
 }
@@ -60,11 +75,9 @@ fn faulty_orders_are_refused(rt: HostRuntime) -> Result<(), Fail> {
     let front = "{\"do\":\"apply\",\"service\":0";
     for order in FAULTY_ORDERS {
         let siblings = format!(in rt.alloc(); "{front},\"siblings\":{order},\"parents\":0}}")?;
-        let want = Refusal::NotARequest(FieldName::Siblings);
-        assert_refused(&rt, rt.alloc(), siblings.as_bytes(), want);
+        assert_faulty(&rt, rt.alloc(), siblings.as_bytes(), FieldName::Siblings);
         let parents = format!(in rt.alloc(); "{front},\"siblings\":[],\"parents\":{order}}}")?;
-        let want = Refusal::NotARequest(FieldName::Parents);
-        assert_refused(&rt, rt.alloc(), parents.as_bytes(), want);
+        assert_faulty(&rt, rt.alloc(), parents.as_bytes(), FieldName::Parents);
     }
     let cases = [
         ("\"parents\":[]", FieldName::Siblings),
@@ -143,6 +156,39 @@ fn faulty_mappings_are_refused(rt: HostRuntime) -> Result<(), Fail> {
     assert_all_faulty(&rt, rt.alloc(), "{\"do\":\"unmap\",\"service\":0", &cases)
 }
 
+// Both tags have their form before either is cleaned.
+#[test]
+fn faulty_siblings_are_refused(rt: HostRuntime) -> Result<(), Fail> {
+    let cases = [
+        ("\"good\":\"b\"", FieldName::Bad),
+        ("\"bad\":null,\"good\":\"b\"", FieldName::Bad),
+        ("\"bad\":1,\"good\":2", FieldName::Bad),
+        ("\"bad\":[\"a\"],\"good\":\"\"", FieldName::Bad),
+        ("\"Bad\":\"a\",\"good\":null", FieldName::Bad),
+        ("\"tag\":\"a\",\"good\":\"b\"", FieldName::Bad),
+        ("\"bad\":\"a\"", FieldName::Good),
+        ("\"bad\":\"\",\"good\":null", FieldName::Good),
+        ("\"bad\":\"a\",\"good\":2", FieldName::Good),
+        ("\"bad\":\"a\",\"good\":[\"b\"]", FieldName::Good),
+        ("\"bad\":\" \",\"Good\":\"b\"", FieldName::Good),
+    ];
+    assert_all_faulty(&rt, rt.alloc(), ADD_SIBLING, &cases)?;
+    assert_all_faulty(&rt, rt.alloc(), REMOVE_SIBLING, &cases)
+}
+
+#[test]
+fn faulty_questions_for_an_ideal_tag_are_refused(rt: HostRuntime) -> Result<(), Fail> {
+    let cases = [
+        ("\"Tag\":\"a\"", FieldName::Tag),
+        ("\"bad\":\"a\"", FieldName::Tag),
+        ("\"tag\":null", FieldName::Tag),
+        ("\"tag\":0", FieldName::Tag),
+        ("\"tag\":[\"a\"]", FieldName::Tag),
+        ("\"tag\":\"\",\"service\":256", FieldName::Service),
+    ];
+    assert_all_faulty(&rt, rt.alloc(), IDEAL, &cases)
+}
+
 #[test]
 fn faulty_states_are_refused(rt: HostRuntime) -> Result<(), Fail> {
     let cases = [
@@ -160,23 +206,36 @@ fn faulty_states_are_refused(rt: HostRuntime) -> Result<(), Fail> {
     let front = "{\"do\":\"map\",\"service\":0,\"tag\":\"a\",\"file\":1";
     assert_all_faulty(&rt, rt.alloc(), front, &cases)?;
     let alone = format!(in rt.alloc(); "{front}}}")?;
-    let want = Refusal::NotARequest(FieldName::State);
-    assert_refused(&rt, rt.alloc(), alone.as_bytes(), want);
+    assert_faulty(&rt, rt.alloc(), alone.as_bytes(), FieldName::State);
     Ok(())
 }
 
 // White space alone leaves nothing.
 #[test]
 fn bad_tags_are_refused(rt: HostRuntime) -> Result<(), Fail> {
+    let bad_tag = &Refusal::BadTag;
     let cases = [
-        ("\"tag\":\"\"", Refusal::BadTag),
-        ("\"tag\":\" \"", Refusal::BadTag),
-        ("\"tag\":\"\\u0009\\n\\r\"", Refusal::BadTag),
-        ("\"tag\":\"\\u2003\\u3000\\u0085\"", Refusal::BadTag),
-        ("\"tag\":\"a\",\"tag\":\"\"", Refusal::BadTag),
+        ("\"tag\":\"\"", bad_tag),
+        ("\"tag\":\" \"", bad_tag),
+        ("\"tag\":\"\\u0009\\n\\r\"", bad_tag),
+        ("\"tag\":\"\\u2003\\u3000\\u0085\"", bad_tag),
+        ("\"tag\":\"a\",\"tag\":\"\"", bad_tag),
     ];
     assert_all_refused(&rt, rt.alloc(), MAP, &cases)?;
-    assert_all_refused(&rt, rt.alloc(), UNMAP, &cases)
+    assert_all_refused(&rt, rt.alloc(), UNMAP, &cases)?;
+    assert_all_refused(&rt, rt.alloc(), IDEAL, &cases)
+}
+
+#[test]
+fn bad_tags_of_siblings_are_refused(rt: HostRuntime) -> Result<(), Fail> {
+    let bad_tag = &Refusal::BadTag;
+    let cases = [
+        ("\"bad\":\"\",\"good\":\"b\"", bad_tag),
+        ("\"bad\":\"a\",\"good\":\" \"", bad_tag),
+        ("\"bad\":\"\\t\",\"good\":\"\"", bad_tag),
+    ];
+    assert_all_refused(&rt, rt.alloc(), ADD_SIBLING, &cases)?;
+    assert_all_refused(&rt, rt.alloc(), REMOVE_SIBLING, &cases)
 }
 
 // A line that maps a tag of so many letters.
@@ -203,7 +262,7 @@ fn a_tag_has_a_limit(rt: HostRuntime) -> Result<(), Fail> {
     assert_eq!(rt; mapping.tag.as_bytes().len(), 1_024);
     assert!(rt; mapping.tag.as_bytes().iter().all(|byte| *byte == b'q'));
     let longer = with_letters(rt.alloc(), 1_025)?;
-    assert_refused(&rt, rt.alloc(), longer.as_bytes(), Refusal::BadTag);
+    assert_refused(&rt, rt.alloc(), longer.as_bytes(), &Refusal::BadTag);
     Ok(())
 }
 
@@ -255,6 +314,29 @@ fn states_are_read(rt: HostRuntime) -> Result<(), Fail> {
     Ok(())
 }
 
+fn assert_mappings_asked(
+    rt: &impl Abort,
+    alloc: Global,
+    fields: &str,
+    service: ServiceNo,
+    file: FileNo,
+) -> Result<(), Fail> {
+    let Command::Ask(query) = read_pieces(alloc, "{\"do\":\"mappings\",", fields, "}")? else {
+        panic!(rt; "no question: {fields}")
+    };
+    match query {
+        Query::Mappings {
+            service: of,
+            file: asked,
+        } => {
+            assert_eq!(rt; of, service);
+            assert_eq!(rt; asked, file);
+        }
+        _ => panic!(rt; "no mappings: {fields}"),
+    }
+    Ok(())
+}
+
 #[test]
 fn questions_for_mappings_are_read(rt: HostRuntime) -> Result<(), Fail> {
     let cases = [
@@ -266,11 +348,7 @@ fn questions_for_mappings_are_read(rt: HostRuntime) -> Result<(), Fail> {
         ),
     ];
     for (fields, service, file) in cases {
-        let Command::Ask(query) = read_pieces(rt.alloc(), "{\"do\":\"mappings\",", fields, "}")?
-        else {
-            panic!(rt; "no question: {fields}")
-        };
-        assert_eq!(rt; query, Query::Mappings { service, file });
+        assert_mappings_asked(&rt, rt.alloc(), fields, service, file)?;
     }
     let faulty = [
         ("\"service\":1", FieldName::File),
@@ -278,4 +356,78 @@ fn questions_for_mappings_are_read(rt: HostRuntime) -> Result<(), Fail> {
         ("\"service\":256,\"file\":-1", FieldName::Service),
     ];
     assert_all_faulty(&rt, rt.alloc(), "{\"do\":\"mappings\"", &faulty)
+}
+
+const SIBLINGS: [(&str, &str, &str); 5] = [
+    (",\"bad\":\"a\",\"good\":\"b\"}", "a", "b"),
+    (",\"good\":\"a\",\"bad\":\" B  c\"}", "b c", "a"),
+    (",\"bad\":\"Q\",\"good\":\"q \"}", "q", "q"),
+    (
+        ",\"bad\":null,\"good\":\"\\u00c9t\\u00E9\",\"bad\":\"\\ud834\\udd1e\"}",
+        "𝄞",
+        "Été",
+    ),
+    (
+        ",\"bad\":\"\\\"\",\"Bad\":1,\"good\":\"Creator:d\",\"file\":-1}",
+        "\"",
+        "creator:d",
+    ),
+];
+
+fn added(rt: &impl Abort, alloc: Global, fields: &str) -> Result<TagPair, Fail> {
+    match read_pieces(alloc, ADD_SIBLING, fields, "")? {
+        Command::Do(Change::SiblingAdded(pair)) => Ok(pair),
+        _ => panic!(rt; "no sibling: {fields}"),
+    }
+}
+
+fn removed(rt: &impl Abort, alloc: Global, fields: &str) -> Result<TagPair, Fail> {
+    match read_pieces(alloc, REMOVE_SIBLING, fields, "")? {
+        Command::Do(Change::SiblingRemoved(pair)) => Ok(pair),
+        _ => panic!(rt; "no sibling: {fields}"),
+    }
+}
+
+fn assert_pair(rt: &impl Abort, pair: &TagPair, bad: &str, good: &str) {
+    assert_eq!(rt; pair.service, ServiceNo(1));
+    assert_eq!(rt; pair.first.as_str(), bad);
+    assert_eq!(rt; pair.second.as_str(), good);
+}
+
+#[test]
+fn siblings_are_read(rt: HostRuntime) -> Result<(), Fail> {
+    for (fields, bad, good) in &SIBLINGS {
+        assert_pair(&rt, &added(&rt, rt.alloc(), fields)?, bad, good);
+        assert_pair(&rt, &removed(&rt, rt.alloc(), fields)?, bad, good);
+    }
+    Ok(())
+}
+
+// The tag as JSON spells it.
+fn assert_ideal_asked(
+    rt: &impl Abort,
+    alloc: Global,
+    spelled: &str,
+    want: &str,
+) -> Result<(), Fail> {
+    let front = "{\"bad\":0,\"do\":\"ideal\",\"service\":255,\"tag\":\"";
+    let Command::Ask(query) = read_pieces(alloc, front, spelled, "\"}")? else {
+        panic!(rt; "no question: {spelled}")
+    };
+    match query {
+        Query::Ideal { service, tag } => {
+            assert_eq!(rt; service, ServiceNo(255));
+            assert_eq!(rt; tag.as_str(), want);
+        }
+        _ => panic!(rt; "no ideal tag: {spelled}"),
+    }
+    Ok(())
+}
+
+#[test]
+fn questions_for_an_ideal_tag_are_read(rt: HostRuntime) -> Result<(), Fail> {
+    for (spelled, tag) in &TAGS {
+        assert_ideal_asked(&rt, rt.alloc(), spelled, tag)?;
+    }
+    Ok(())
 }
