@@ -1,14 +1,14 @@
 -- What changes of sibling pairs leave: records that fit, and others. The ideal tag of a tag that is there is there too.
-use Rattle.std.proofs.Common.{◌≡◌, ◌≢◌, ◌<◌, ◌≤◌, ◌==◌, ◌&&◌, ℕ, zero, suc, Bool, true, false, cond, option_and_then, nat_lt, Option, Some, None, List, [], ◌∷◌, length, length-append, map, filter, arith, refl, sym, ap, ◌∙◌}
+use Rattle.std.proofs.Common.{◌≡◌, ◌≢◌, ◌<◌, ◌≤◌, ◌==◌, ◌&&◌, ℕ, zero, suc, Bool, true, false, cond, option_and_then, nat_lt, Option, Some, None, List, [], ◌∷◌, length, length-append, map, filter, arith, refl, sym, ap, subst, ◌∙◌}
 use Rattle.std.specs.List.{AllByRecursion}
-use Rattle.std.proofs.lemmas.Bool.{lt-ltb, ltb-true}
+use Rattle.std.proofs.lemmas.Bool.{lt-ltb, ltb-true, ne_eqb}
 use Rattle.std.proofs.lemmas.List.Elements.{All-push, All-from_recursion, recursion_from_All}
 use Rattle.media_types.specs.declared.numbers.ServiceNo.{ServiceNo}
 use Rattle.media_types.specs.declared.numbers.TagNo.{TagNo}
 use Rattle.media_base.specs.declared.change.TagPair.{TagPair}
 use Rattle.tag_types.specs.declared.limits.TheConstants.{MAX_RELATIONS, MAX_TAGS}
 use Rattle.tag_store.specs.Numbering.{number_of, with_tag}
-use Rattle.tag_store.specs.NumberingLaws.{distinct-with_tag, length-grows, next_within, number_is}
+use Rattle.tag_store.specs.NumberingLaws.{distinct-with_tag, length-grows, next_within, number_is, unnumbered_next}
 use Rattle.sibling_chains.specs.ClusterLaws.{alone}
 use Rattle.sibling_chains.specs.Clusters.{IsClosed}
 use Rattle.sibling_chains.specs.Following.{good_of}
@@ -16,7 +16,7 @@ use Rattle.sibling_chains.specs.Recorded.{pair_of, pairs_of, removed, removed_at
 use Rattle.sibling_chains.specs.RowLaws.{length-removed}
 use Rattle.sibling_chains.specs.declared.relation_row.RelationRow.{RelationRow}
 use Rattle.library_machine.specs.Records.{Records, IsPairThere, IsService, PairsFit, TagsFit}
-use Rattle.library_machine.specs.Relating.{good_number, ideal_number, row_of, sibling_order, with_both, with_sibling, without_sibling}
+use Rattle.library_machine.specs.Relating.{good_number, ideal_number, pair_tags, row_of, sibling_order, with_both, with_sibling, without_sibling}
 use Rattle.library_machine.specs.Tagging.{numbered}
 
 -- among more services and tags
@@ -27,17 +27,21 @@ fit_more s t a b rows more_s more_t fit = record {
 }
 
 module _ (r : Records) (pair : TagPair) where
-  grows : length r.tags ≤ length (with_both r.tags pair.first pair.second)
+  pub grows : length r.tags ≤ length (with_both r.tags pair.first pair.second)
   grows =
       let first = length-grows pair.first r.tags in
       let second = length-grows pair.second (with_tag r.tags pair.first) in
       omega (arith, first, second)
 
-  row_there : IsService r pair.service → IsPairThere (length r.services) (length (with_both r.tags pair.first pair.second)) (row_of r pair)
-  row_there service =
+  -- the two tags of a pair are there once they are numbered
+  pub pair_there : ((pair_tags r pair).bad.0 < length (with_both r.tags pair.first pair.second)) × ((pair_tags r pair).good.0 < length (with_both r.tags pair.first pair.second))
+  pair_there =
       let bad = next_within pair.first r.tags in
       let more = length-grows pair.second (with_tag r.tags pair.first) in
-      (service, omega (arith, bad, more), next_within pair.second (with_tag r.tags pair.first))
+      (omega (arith, bad, more), next_within pair.second (with_tag r.tags pair.first))
+
+  row_there : IsService r pair.service → IsPairThere (length r.services) (length (with_both r.tags pair.first pair.second)) (row_of r pair)
+  row_there service = (service, pair_there.0, pair_there.1)
 
   pub tags_fit : length (with_both r.tags pair.first pair.second) ≤ MAX_TAGS → TagsFit (length r.files) r.tags r.services r.mappings
       → TagsFit (length r.files) (with_sibling r pair).tags r.services r.mappings
@@ -107,6 +111,51 @@ good_stands r service text good = numbered_good r service text good _ refl
 pub removed_other : (r : Records) (pair : TagPair) (good : ℕ) → good_number r pair.service pair.first ≡ Some good → without_sibling r pair ≢ r
 removed_other r pair good is same =
     place_differs pair.service (numbered r pair.first).0 good r.siblings (good_stands r pair.service pair.first good is) (ap (λ (s : Records). s.siblings) same)
+
+-- ---- good tags
+
+-- a good tag is there
+good_below : (s t : ℕ) (service : ServiceNo) (bad good : ℕ) (rows : List RelationRow) → AllByRecursion (IsPairThere s t) rows → good_of (pairs_of rows service) bad ≡ Some good → good < t
+good_below s t service bad good [] all is = absurd (cc is)
+good_below s t service bad good (row ∷ rows) all is = by (row.standing && row.service.0 == service.0) (row.first.0 == bad) refl (good_below s t service bad good rows all.1) is
+  where
+    by : (here first : Bool) → (row.first.0 == bad) ≡ first → (good_of (pairs_of rows service) bad ≡ Some good → good < t)
+        → good_of (map pair_of (cond here (row ∷ filter (λ row. row.standing && row.service.0 == service.0) rows) (filter (λ row. row.standing && row.service.0 == service.0) rows))) bad ≡ Some good
+        → good < t
+    by true true first rest is =
+        let told : Some row.second.0 ≡ Some good = sym (ap (λ (found : Bool). cond found (Some row.second.0) (good_of (pairs_of rows service) bad)) first) ∙ is in
+        let same : row.second.0 ≡ good = cc told in
+        subst (λ (n : ℕ). n < t) same all.0.2
+    by true false first rest is = rest (sym (ap (λ (found : Bool). cond found (Some row.second.0) (good_of (pairs_of rows service) bad)) first) ∙ is)
+    by false is_first first rest is = rest is
+
+pub good_there : (s t : ℕ) (service : ServiceNo) (bad good : ℕ) (rows : List RelationRow) → PairsFit s t rows → good_of (pairs_of rows service) bad ≡ Some good → good < t
+good_there s t service bad good rows fit = good_below s t service bad good rows (recursion_from_All (IsPairThere s t) rows fit.there)
+
+-- a tag that isn't there has no good tag
+none_past : (s t : ℕ) (service : ServiceNo) (bad : ℕ) (rows : List RelationRow) → t ≤ bad → AllByRecursion (IsPairThere s t) rows → good_of (pairs_of rows service) bad ≡ None
+none_past s t service bad [] past all = refl
+none_past s t service bad (row ∷ rows) past all = by (row.standing && row.service.0 == service.0) (none_past s t service bad rows past all.1)
+  where
+    by : (here : Bool) → good_of (pairs_of rows service) bad ≡ None
+        → good_of (map pair_of (cond here (row ∷ filter (λ row. row.standing && row.service.0 == service.0) rows) (filter (λ row. row.standing && row.service.0 == service.0) rows))) bad ≡ None
+    by true rest =
+        let other : (row.first.0 == bad) ≡ false = ne_eqb row.first.0 bad (λ same. omega (arith, same, past, all.0.1)) in
+        ap (λ (found : Bool). cond found (Some row.second.0) (good_of (pairs_of rows service) bad)) other ∙ rest
+    by false rest = rest
+
+none_by : (r : Records) (service : ServiceNo) (text : List ℕ) (found : Option ℕ) → number_of text r.tags ≡ found → PairsFit (length r.services) (length r.tags) r.siblings →
+    good_number r service text ≡ None → good_of (pairs_of r.siblings service) (numbered r text).0 ≡ None
+none_by r service text None found fit is =
+    let last = unnumbered_next text r.tags found in
+    none_past (length r.services) (length r.tags) service (numbered r text).0 r.siblings (omega (arith, last)) (recursion_from_All (IsPairThere (length r.services) (length r.tags)) r.siblings fit.there)
+none_by r service text (Some bad) found fit is =
+    ap (good_of (pairs_of r.siblings service)) (number_is text r.tags (number_of text r.tags) refl bad found)
+    ∙ sym (ap (λ (number : Option ℕ). option_and_then (λ bad. good_of (pairs_of r.siblings service) bad) number) found) ∙ is
+
+pub none_stands : (r : Records) (service : ServiceNo) (text : List ℕ) → PairsFit (length r.services) (length r.tags) r.siblings →
+    good_number r service text ≡ None → good_of (pairs_of r.siblings service) (numbered r text).0 ≡ None
+none_stands r service text = none_by r service text _ refl
 
 -- ---- ideal tags
 

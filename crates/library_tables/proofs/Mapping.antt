@@ -1,5 +1,5 @@
 -- What is prepared for services and mappings is what the changes come to.
-use Rattle.std.proofs.Common.{◌≡◌, ◌<◌, ◌||◌, inl, inr, ℕ, Bool, true, false, not, nat_lt, Some, None, Ok, Err, Option, is_some, [], ◌∷◌, List, length, refl, ap, sym, ◌∙◌}
+use Rattle.std.proofs.Common.{◌≡◌, ◌<◌, ◌≤◌, ◌||◌, slice_set, inl, inr, ℕ, Bool, true, false, not, nat_lt, Some, None, Ok, Err, Option, is_some, [], ◌∷◌, List, length, refl, ap, sym, ◌∙◌}
 use Rattle.std.specs.List.{list_all}
 use Rattle.std.proofs.lemmas.Bool.{and_parts, ltb-true, both_ways}
 use Rattle.media_types.specs.declared.numbers.ServiceNo.{ServiceNo}
@@ -10,6 +10,9 @@ use Rattle.media_base.specs.declared.reply.Answer.TheVariants as answers
 use Rattle.tag_types.specs.declared.limits.TheConstants.{MAX_SERVICES, MAX_TAGS}
 use Rattle.tag_types.specs.declared.map_state.MapState.{MapState}
 use Rattle.tag_types.specs.declared.orders.Orders.{Orders}
+use Rattle.sibling_chains.specs.Planning.{IsPlanFor}
+use Rattle.sibling_chains.specs.Planning.{after as siblings_after}
+use Rattle.sibling_chains.specs.declared.sibling_plan.SiblingPlan.{SiblingPlan}
 use Rattle.tag_store.specs.Numbering.{HasPlaceFor, is_tag, number_of}
 use Rattle.tag_store.specs.NumberingLaws.{is_numbered, numbered_there, tagged}
 use Rattle.library_machine.specs.Changing.{answer_to, does, effect, is_idle, mapping_needs, needs}
@@ -35,14 +38,14 @@ pub service_full : (r : Records) → nat_lt (length r.services) MAX_SERVICES ≡
 unfolding needs is_idle
 service_full r full = rw full refl
 
-pub service_prepared : (t : TablesView) (count : ℕ) → Fits (records_of t) → nat_lt (length t.services) MAX_SERVICES ≡ true → count ≡ length t.services →
+pub service_prepared : (t : TablesView) (count : ℕ) → 1 ≤ t.siblings.service_room → Fits (records_of t) → nat_lt (length t.services) MAX_SERVICES ≡ true → count ≡ length t.services →
     IsPrepared changes.Service t (prepared.Ready plans.Service (answers.Service (record { 0 = count })))
 unfolding effect answer_to
-service_prepared t count fits room is =
+service_prepared t count spare fits room is =
     let done = service_does (records_of t) room in (
       done,
       ap (λ (n : ℕ). answers.Service (record { 0 = n })) (sym is),
-      record { few = ltb-true _ _ room; fits = changes_keep_fit (records_of t) changes.Service done fits; leads = refl },
+      record { few = ltb-true _ _ room; room = spare; fits = changes_keep_fit (records_of t) changes.Service done fits; leads = refl },
       refl,
     )
 
@@ -67,15 +70,16 @@ pub orders_idle : (t : TablesView) (service : ServiceNo) (orders : Orders) → l
 unfolding answer_to
 orders_idle t service orders there same = (orders_does (records_of t) service orders there ∙ ap Ok same, refl)
 
-pub orders_prepared : (t : TablesView) (service : ServiceNo) (orders : Orders) → Fits (records_of t) →
+pub orders_prepared : (t : TablesView) (service : ServiceNo) (orders : Orders) (siblings : SiblingPlan) → IsPlanFor siblings t.siblings →
+    siblings_after siblings t.siblings ≡ record t.siblings { orders = slice_set t.siblings.orders service.0 orders.siblings } → Fits (records_of t) →
     list_all (has_service (records_of t)) (services_named service orders) ≡ true → service.0 < length t.services → has_orders (records_of t) service orders ≡ false →
-    IsPrepared (changes.Orders service orders) t (prepared.Ready (plans.Orders (record { service = service; orders = orders })) (answers.Service service))
+    IsPrepared (changes.Orders service orders) t (prepared.Ready (plans.Orders (record { service = service; orders = orders; siblings = siblings })) (answers.Service service))
 unfolding effect answer_to
-orders_prepared t service orders fits there known other =
+orders_prepared t service orders siblings planned chains fits there known other =
     let done = orders_does (records_of t) service orders there ∙ ap Ok other in (
       done,
       refl,
-      record { known = known; fits = changes_keep_fit (records_of t) (changes.Orders service orders) done fits; leads = refl },
+      record { known = known; planned = planned; chains = chains; fits = changes_keep_fit (records_of t) (changes.Orders service orders) done fits; leads = refl },
       refl,
     )
 

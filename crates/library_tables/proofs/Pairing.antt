@@ -1,9 +1,9 @@
 -- What is prepared for sibling pairs is what the changes come to.
-use Rattle.std.proofs.Common.{◌≡◌, ◌≢◌, ◌<◌, ◌≤◌, ◌+◌, ◌&&◌, ◌||◌, if◌then◌else◌, inl, inr, ℕ, zero, suc, Bool, true, false, not, nat_le, nat_lt, Some, None, Ok, Err, Option, is_some, option_map, [], ◌∷◌, ◌++◌, List, length, length-append, map, slice_get, arith, refl, ap, sym, subst, ◌∙◌}
-use Rattle.std.specs.Prelude.{All, IsSome, slice_index_or, slice_set, bytes_eq, option_and_then}
+use Rattle.std.proofs.Common.{◌≡◌, ◌<◌, ◌&&◌, if◌then◌else◌, ℕ, zero, suc, Bool, true, false, Some, None, Ok, Err, Option, is_some, option_map, [], ◌∷◌, ◌++◌, List, length, slice_get, arith, refl, ap, sym, subst, ◌∙◌}
+use Rattle.std.specs.Prelude.{slice_index_or, bytes_eq, option_and_then}
 use Rattle.std.specs.Option.{option_map_or}
-use Rattle.std.proofs.lemmas.Bool.{and_parts, ltb-true, lt-ltb, leb-true, both_ways}
-use Rattle.std.proofs.lemmas.List.{length-map, map-append, map-set}
+use Rattle.std.proofs.lemmas.List.{length-map, map-append}
+use Rattle.std.proofs.lemmas.Option.{get_or_from_slice_get}
 use Rattle.media_types.specs.declared.numbers.ServiceNo.{ServiceNo}
 use Rattle.media_types.specs.declared.numbers.TagNo.{TagNo}
 use Rattle.media_base.specs.declared.change.Change.TheVariants as changes
@@ -14,21 +14,24 @@ use Rattle.sibling_chains.specs.Following.{good_of}
 use Rattle.sibling_chains.specs.Known.{Known, ideal_in}
 use Rattle.sibling_chains.specs.Recorded.{ideal, pairs_of}
 use Rattle.sibling_chains.specs.declared.sibling_plan.SiblingPlan.{SiblingPlan}
-use Rattle.tag_types.specs.declared.limits.TheConstants.{MAX_TAGS}
 use Rattle.tag_types.specs.declared.orders.Orders.{Orders}
-use Rattle.tag_store.specs.Numbering.{HasPlaceFor, Numbered, is_tag, number_of, with_tag}
+use Rattle.tag_store.specs.Numbering.{Numbered, number_of}
+use Rattle.tag_store.specs.NumberingLaws.{next_within, number_is, numbered_known}
 use Rattle.tag_store.specs.Serving.{next_orders}
+use Rattle.media_base.specs.declared.command.Query.TheVariants as queries
+use Rattle.library_machine.specs.Tagging.{numbered}
+use Rattle.library_machine.specs.Asking.{answer, asked, query_needs}
 use Rattle.library_machine.specs.Changing.{answer_to, does, effect, is_idle, needs}
 use Rattle.library_machine.specs.Guards.{guarded}
 use Rattle.library_machine.specs.GoodLaws.{changes_keep_fit}
 use Rattle.library_machine.specs.Needs.{has_service, has_tag, is_met, pair_stands, room_for_sibling, room_for_tags, unmet}
-use Rattle.library_machine.specs.Records.{Fits, IsPairThere, PairsFit, Records}
-use Rattle.library_machine.specs.Relating.{good_number, good_text, ideal_number, pair_tags, row_of, sibling_order, text_of, with_both, with_sibling, without_sibling}
+use Rattle.library_machine.specs.Records.{Fits, Records}
+use Rattle.library_machine.specs.Relating.{good_number, good_text, ideal_number, pair_tags, text_of, with_sibling}
 use Rattle.library_tables.specs.declared.plan.Prepared.TheVariants as prepared
 use Rattle.library_tables.specs.declared.plan.TablesPlan.TheVariants as plans
 use Rattle.library_tables.specs.declared.siblings.PlannedSibling.{PlannedSibling}
 use Rattle.library_tables.specs.Preparing.{IsPrepared}
-use Rattle.library_tables.specs.Siblings.{IsSiblingReady, LeadsRemoval}
+use Rattle.library_tables.specs.Siblings.{IsRemovalReady, IsSiblingReady}
 use Rattle.library_tables.specs.Tables.{AreInStep, TablesView, records_of, sibling_orders}
 
 -- ---- the tables stay in step
@@ -154,6 +157,67 @@ pub removed_done : (r : Records) (pair : TagPair) → has_service r pair.service
 removed_done r pair service first second is = removed_does r pair true service first second is
 
 pub removal_prepared : (t : TablesView) (pair : TagPair) (plan : SiblingPlan) → does (records_of t) (changes.SiblingRemoved pair) ≡ Ok false →
-    LeadsRemoval plan t (without_sibling (records_of t) pair) → IsPrepared (changes.SiblingRemoved pair) t (prepared.Ready (plans.SiblingRemoved plan) (answers.Changed true))
+    Fits (records_of t) → IsRemovalReady plan pair t → IsPrepared (changes.SiblingRemoved pair) t (prepared.Ready (plans.SiblingRemoved plan) (answers.Changed true))
 unfolding effect answer_to
-removal_prepared t pair plan done leads = (done, refl, leads, refl)
+removal_prepared t pair plan done fits ready = (
+  done,
+  refl,
+  record {
+    planned = ready.planned;
+    chains = ready.chains;
+    fits = changes_keep_fit (records_of t) (changes.SiblingRemoved pair) done fits;
+    leads = refl;
+  },
+  refl,
+)
+
+-- ---- texts
+
+-- the text of the good tag that is found
+pub found_text : (r : Records) (service : ServiceNo) (text shown : List ℕ) (bad good : ℕ) → Some bad ≡ number_of text r.tags → Some good ≡ good_of (pairs_of r.siblings service) bad →
+    slice_get r.tags good ≡ Some shown → Some shown ≡ option_map (text_of r) (good_number r service text)
+found_text r service text shown bad good is_bad is_good there =
+    let at : text_of r good ≡ shown = get_or_from_slice_get r.tags good shown [] there in
+    ap Some (sym at) ∙ ap (option_map (text_of r)) is_good
+    ∙ ap (λ (found : Option ℕ). option_map (text_of r) (option_and_then (λ bad. good_of (pairs_of r.siblings service) bad) found)) is_bad
+
+pub no_number : (r : Records) (service : ServiceNo) (text : List ℕ) → None ≡ number_of text r.tags → None ≡ option_map (text_of r) (good_number r service text)
+no_number r service text none = ap (λ (found : Option ℕ). option_map (text_of r) (option_and_then (λ bad. good_of (pairs_of r.siblings service) bad) found)) none
+
+pub no_good_found : (r : Records) (service : ServiceNo) (text : List ℕ) (bad : ℕ) → Some bad ≡ number_of text r.tags → None ≡ good_of (pairs_of r.siblings service) bad →
+    None ≡ option_map (text_of r) (good_number r service text)
+no_good_found r service text bad is_bad none =
+    ap (option_map (text_of r)) none
+    ∙ ap (λ (found : Option ℕ). option_map (text_of r) (option_and_then (λ bad. good_of (pairs_of r.siblings service) bad) found)) is_bad
+
+-- whether the pair stands, by the text of the good tag that is found
+stands_by : (r : Records) (second : List ℕ) (found : Option ℕ) (shown : Option (List ℕ)) → shown ≡ option_map (text_of r) found →
+    option_map_or (λ text. bytes_eq text second) shown false ≡ option_map_or (λ good. bytes_eq (text_of r good) second) found false
+stands_by r second None shown is = ap (λ (shown : Option (List ℕ)). option_map_or (λ text. bytes_eq text second) shown false) is
+stands_by r second (Some good) shown is = ap (λ (shown : Option (List ℕ)). option_map_or (λ text. bytes_eq text second) shown false) is
+
+pub pair_found : (r : Records) (pair : TagPair) (shown : Option (List ℕ)) → shown ≡ option_map (text_of r) (good_number r pair.service pair.first) →
+    option_map_or (λ text. bytes_eq text pair.second) shown false ≡ is_met r (pair_stands pair)
+pair_found r pair shown = stands_by r pair.second (good_number r pair.service pair.first) shown
+
+-- a number that is found is below the number of tags
+pub tag_below : (r : Records) (text : List ℕ) (tag : ℕ) → Some tag ≡ number_of text r.tags → tag < length r.tags
+tag_below r text tag found =
+    let known = numbered_known text r.tags tag (sym found) in
+    let same = number_is text r.tags (number_of text r.tags) refl tag (sym found) in
+    let within = next_within text r.tags in
+    let longer = ap length known in
+    omega (arith, same, within, longer)
+
+-- what is told of an ideal tag
+pub ideal_asked : (t : TablesView) (service : ServiceNo) (text shown : List ℕ) (tag ideal : TagNo) → has_service (records_of t) service ≡ true → Some tag.0 ≡ number_of text t.tags.texts →
+    t.siblings.orders ≡ sibling_orders t.services → ideal.0 ≡ ideal_in t.siblings service.0 tag.0 → slice_get t.tags.texts ideal.0 ≡ Some shown →
+    Ok (answers.Ideal (record { ideal = shown; ancestors = [] })) ≡ asked (records_of t) (queries.Ideal service text)
+unfolding query_needs answer
+ideal_asked t service text shown tag ideal there found ordered is at =
+    let r = records_of t in
+    let known : has_tag r text ≡ true = ap (λ (number : Option ℕ). is_some number) (sym found) in
+    let number : (numbered r text).0 ≡ tag.0 = number_is text r.tags (number_of text r.tags) refl tag.0 (sym found) in
+    let same : ideal_number r service (numbered r text) ≡ ideal.0 = ap (λ (n : ℕ). ideal_number r service (record { 0 = n })) number ∙ sym (is ∙ ideal_same t service tag ordered) in
+    let told : text_of r (ideal_number r service (numbered r text)) ≡ shown = ap (text_of r) same ∙ get_or_from_slice_get r.tags ideal.0 shown [] at in
+    rw (there, known, told) refl

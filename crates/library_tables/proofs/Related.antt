@@ -1,26 +1,34 @@
 -- The work on the clusters of a pair's tags is no more than the records that the change leaves tell.
-use Rattle.std.proofs.Common.{◌≡◌, ◌∙◌, ◌<◌, ◌≤◌, ◌+◌, ◌-◌, ◌*◌, ◌==◌, ◌||◌, ℕ, zero, suc, Bool, true, false, cond, nat_lt, List, [], ◌∷◌, ◌++◌, length, length-append, map, filter, refl, sym, ap, inl, inr, arith}
-use Rattle.std.specs.Prelude.{All}
+use Rattle.std.proofs.Common.{◌≡◌, ◌∙◌, ◌<◌, ◌≤◌, ◌+◌, ◌-◌, ◌*◌, ◌==◌, ◌||◌, ℕ, zero, suc, Bool, true, false, cond, nat_lt, List, [], ◌∷◌, ◌++◌, length, length-append, map, filter, refl, sym, ap, subst, inl, inr, arith}
+use Rattle.std.specs.Prelude.{All, Option, Some, None, bytes_eq, option_and_then}
+use Rattle.std.specs.Option.{option_map_or}
 use Rattle.std.specs.List.{range_with_len}
 use Rattle.std.proofs.Math.Nat.{mul-le-mul}
-use Rattle.std.proofs.lemmas.Bool.{cases_Bool, cases_lt, eqb-true, eq-eqb, lt-ltb, ltb-true, false_from_ne_true}
+use Rattle.std.proofs.lemmas.Bool.{both_ways, cases_Bool, cases_lt, eqb-true, eq-eqb, lt-ltb, ltb-true, false_from_ne_true}
 use Rattle.std.proofs.lemmas.List.{append-nil, map-append}
-use Rattle.std.proofs.lemmas.List.Elements.{All-append, All-map, All-nil, filter-append}
+use Rattle.std.proofs.lemmas.List.Elements.{All-map, filter-append}
+use Rattle.media_types.specs.declared.numbers.TagNo.{TagNo}
 use Rattle.media_base.specs.declared.change.TagPair.{TagPair}
 use Rattle.media_base.specs.declared.reply.SiblingTags.{SiblingTags}
 use Rattle.sibling_chains.specs.ClusterLaws.{joined-kept}
 use Rattle.sibling_chains.specs.Clustered.{all_pairs, is_of_two, label_of}
 use Rattle.sibling_chains.specs.Clusters.{joined, labels, rows_within}
-use Rattle.sibling_chains.specs.Following.{Pair}
+use Rattle.sibling_chains.specs.Following.{Pair, good_of}
 use Rattle.sibling_chains.specs.Grouping.{is_either}
 use Rattle.sibling_chains.specs.Known.{Known, rows_of_two, tags_of_two}
 use Rattle.sibling_chains.specs.LabelLaws.{labels-finest, one-tie}
 use Rattle.sibling_chains.specs.NumberLaws.{passed-le, passed-none}
-use Rattle.sibling_chains.specs.Recorded.{pair_of, removed_at}
+use Rattle.sibling_chains.specs.Recorded.{pair_of, pairs_of, removed_at}
+use Rattle.tag_store.specs.Numbering.{number_of}
+use Rattle.tag_store.specs.NumberingLaws.{next_within, numbered_known}
 use Rattle.sibling_chains.specs.declared.relation_row.RelationRow.{RelationRow}
-use Rattle.library_machine.specs.Records.{IsPairThere, PairsFit, Records}
-use Rattle.library_machine.specs.Relating.{pair_tags, place_of, row_of, with_both, with_sibling, without_sibling}
-use Rattle.library_tables.specs.Counting.{pair_work}
+use Rattle.tag_types.specs.declared.limits.TheConstants.{MAX_TAGS}
+use Rattle.library_machine.specs.Records.{Fits, IsPairThere, Records}
+use Rattle.library_machine.specs.RelatedLaws.{fit_more, grows, pair_there}
+use Rattle.library_machine.specs.Relating.{pair_tags, place_of, row_of, text_of, with_both, with_sibling, without_sibling}
+use Rattle.library_machine.specs.Needs.{is_met, pair_stands}
+use Rattle.library_machine.specs.Tagging.{numbered}
+use Rattle.library_tables.specs.Counting.{pair_rows_count, pair_tags_count, pair_work, relation_reads}
 
 -- ---- what passes one test passes another
 module _ {X : Type 0} (p q : X → Bool) (passes : (x : X) → p x ≡ true → q x ≡ true) where
@@ -178,3 +186,51 @@ module _ (r : Records) (pair : TagPair) (v : Known) (rows_same : v.rows ≡ r.si
       → known_work v (record { bad = (pair_tags r pair).bad; good = (pair_tags r pair).bad }) ≤ pair_work (without_sibling r pair) (pair_tags r pair)
   removing_work there bad =
       rw (rows_same, untied) (without_work r.siblings (place_of r pair) (length r.services) v.tags (length r.tags) (pair_tags r pair).bad.0 (pair_tags r pair).good.0 there bad)
+
+-- ---- the bounds
+
+-- the bad tag of a pair that stands is there
+bad_by : (r : Records) (pair : TagPair) (found : Option ℕ) → number_of pair.first r.tags ≡ found → is_met r (pair_stands pair) ≡ true → (numbered r pair.first).0 < length r.tags
+bad_by r pair None found stands =
+    absurd (both_ways _ (ap (λ (number : Option ℕ). option_map_or (λ good. bytes_eq (text_of r good) pair.second) (option_and_then (λ bad. good_of (pairs_of r.siblings pair.service) bad) number) false) found) stands)
+bad_by r pair (Some bad) found stands =
+    subst (λ (texts : List (List ℕ)). (numbered r pair.first).0 < length texts) (numbered_known pair.first r.tags bad found) (next_within pair.first r.tags)
+
+bad_there : (r : Records) (pair : TagPair) → is_met r (pair_stands pair) ≡ true → (numbered r pair.first).0 < length r.tags
+bad_there r pair = bad_by r pair _ refl
+
+-- both tags of a pair get numbers below the limit
+pub tags_below : (r : Records) (pair : TagPair) (tags : SiblingTags) → tags ≡ pair_tags r pair → length (with_both r.tags pair.first pair.second) ≤ MAX_TAGS → (tags.bad.0 < MAX_TAGS) × (tags.good.0 < MAX_TAGS)
+tags_below r pair tags same few =
+    let there = pair_there r pair in
+    rw same (omega (arith, there.0, few), omega (arith, there.1, few))
+
+pub adding_reads : (r : Records) (pair : TagPair) (tags : SiblingTags) (v : Known) (before now : ℕ) → tags ≡ pair_tags r pair → v.rows ≡ r.siblings → v.ties ≡ [] → Fits r →
+    now ≤ before + 5 * known_work v tags → now ≤ before + 5 * pair_work (with_sibling r pair) tags
+adding_reads r pair tags v before now same rows untied fits reads =
+    let more = fit_more (length r.services) (length r.tags) (length r.services) (length (with_both r.tags pair.first pair.second)) r.siblings (omega arith) (grows r pair) fits.siblings in
+    let there = pair_there r pair in
+    let work : known_work v tags ≤ pair_work (with_sibling r pair) tags = rw same (adding_work r pair v rows untied more.there there.0 there.1) in
+    omega (arith, reads, work)
+
+pub removing_reads : (r : Records) (pair : TagPair) (bad : TagNo) (v : Known) (before now : ℕ) → bad.0 ≡ (numbered r pair.first).0 → v.rows ≡ r.siblings → v.ties ≡ [] → Fits r → is_met r (pair_stands pair) ≡ true →
+    now ≤ before + 5 * known_work v (record { bad = bad; good = bad }) → now ≤ before + 5 * pair_work (without_sibling r pair) (pair_tags r pair)
+removing_reads r pair bad v before now same rows untied fits stands reads =
+    let number : bad ≡ (pair_tags r pair).bad = ap (λ (n : ℕ). record { 0 = n }) same in
+    let work : known_work v (record { bad = bad; good = bad }) ≤ pair_work (without_sibling r pair) (pair_tags r pair) =
+    rw number (removing_work r pair v rows untied fits.siblings.there (bad_there r pair stands)) in
+    omega (arith, reads, work)
+
+-- a look-up is within every bound
+pub few_reads : (r : Records) (tags : SiblingTags) (before now : ℕ) → now ≤ before + 2 → now ≤ before + relation_reads r tags
+unfolding relation_reads
+few_reads r tags before now reads =
+    let one : 1 ≤ pair_work r tags = product 0 (pair_rows_count r tags) 0 (pair_tags_count r tags) (omega arith) (omega arith) in
+    omega (arith, reads, one)
+
+-- and so is one behind which the clusters are read
+pub all_reads : (r : Records) (tags : SiblingTags) (before between now : ℕ) → between ≤ before + 2 → now ≤ between + 5 * pair_work r tags → now ≤ before + relation_reads r tags
+unfolding relation_reads
+all_reads r tags before between now first later =
+    let one : 1 ≤ pair_work r tags = product 0 (pair_rows_count r tags) 0 (pair_tags_count r tags) (omega arith) (omega arith) in
+    omega (arith, first, later, one)

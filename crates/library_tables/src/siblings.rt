@@ -16,7 +16,7 @@ ghost use Rattle.library_machine.specs.Records.{Fits, Records};
 ghost use Rattle.library_machine.specs.Relating.{good_number, pair_tags, text_of, with_both, with_sibling, without_sibling};
 ghost use Rattle.library_tables.specs.Counting.{pair_work, relation_reads};
 ghost use Rattle.library_tables.specs.Preparing.{IsPrepared};
-ghost use Rattle.library_tables.specs.Siblings.{IsSiblingReady, LeadsRemoval, LeadsSibling};
+ghost use Rattle.library_tables.specs.Siblings.{IsRemovalReady, IsSiblingReady, LeadsRemoval, LeadsSibling};
 ghost use Rattle.library_tables.specs.Tables.{HasWords, marked_tree, records_of};
 
 use crate::plan::{Prepared, TablesPlan};
@@ -209,13 +209,14 @@ impl Tables {
         ensures records { records_of self.new ≡ records_of self.old }
         ensures tree { marked_tree self.new ≡ marked_tree self.old }
         ensures fits { Fits (records_of self.new) }
-        ensures ready { IfOk result (λ plan. LeadsRemoval plan self.new (without_sibling (records_of self.new) pair.now)) }
+        ensures ready { IfOk result (λ plan. IsRemovalReady plan pair.now self.new) }
         ensures reads { steps.new ≤ steps.old
             + 5 * pair_work (without_sibling (records_of self.old) pair.now) (pair_tags (records_of self.old) pair.now) }
     {
         let bad = self.tags.number(&pair.first);
         grow(&mut self.siblings, bad.0 + 1)?;
-        self.siblings.plan_remove(pair.service, bad, steps)
+        let plan = self.siblings.plan_remove(pair.service, bad, steps)?;
+        Ok(plan)
     }
 
     pub(crate) fn commit_sibling(&mut self, plan: PlannedSibling)
