@@ -97,6 +97,46 @@ fn take_all<K: Keeper, L: Ledger>(
     Ok(())
 }
 
+// The tables to which the keeper's changes lead.
+fn open_tables<K: Keeper, L: Ledger>(
+    alloc: Global,
+    keeper: &mut K,
+    count: u64,
+    steps: &mut Steps<L>,
+) -> Result<Tables, LoadFail>
+    requires ready { K.ready keeper.old }
+    requires place { K.place keeper.old ≡ Some (0, count) }
+    requires told { (readings : Readings) → K.gives keeper.old ≡ Some readings
+        → count ≡ length readings }
+    ensures cause { HasCause (K.faults keeper.old) (K.faults keeper.new) LoadFail.StoreFault result }
+    ensures opened { (readings : Readings) → K.gives keeper.old ≡ Some readings
+        → IfOk result (λ tables. opened readings ≡ Ok (records_of tables)) }
+    ensures bad { (readings : Readings) (n : ℕ) → K.gives keeper.old ≡ Some readings
+        → result ≡ Err (LoadFail.BadStore n) → opened readings ≡ Err n }
+    ensures fits { IfOk result (λ tables. Fits (records_of tables)) }
+    ensures words { IfOk result (λ tables. HasWords tables.tree.rows (records_of tables)) }
+    ensures whole { IfOk result (λ tables. IsBuiltWhole tables.tree.rows) }
+    ensures unmarked { IfOk result (λ tables. tables.work.marks ≡ []) }
+    ensures not_alien { result ≢ Err LoadFail.AlienStore }
+    ensures ready { K.ready keeper.new }
+    ensures place { OnOk result (K.place keeper.new ≡ Some (count, count)) }
+    ensures same_alien { K.alien keeper.new ≡ K.alien keeper.old }
+    ensures same_gives { K.gives keeper.new ≡ K.gives keeper.old }
+    ensures same_kept { K.kept keeper.new ≡ K.kept keeper.old }
+    ensures same_limit { K.limit keeper.new ≡ K.limit keeper.old }
+    ensures same_units { K.units keeper.new ≡ K.units keeper.old }
+{
+    let mut tables = Tables::new(alloc)?;
+    match take_all(&mut tables, keeper, count, steps) {
+        Ok(()) => Ok(tables),
+        Err(fail) => {
+            // Dropping them by a call is proved faster.
+            drop(tables);
+            Err(fail)
+        }
+    }
+}
+
 impl<K: Keeper> Library<K> {
     /// Opens a library: starts the keeper, and does in order what its changes say.
     pub fn load<L: Ledger>(
@@ -137,14 +177,9 @@ impl<K: Keeper> Library<K> {
             Ok(count) => count,
             Err(fault) => return Err((LoadFail::from(fault), keeper)),
         };
-        let mut tables = Tables::new(alloc);
-        match take_all(&mut tables, &mut keeper, count, steps) {
-            Ok(()) => Ok(Library { tables, keeper }),
-            Err(fail) => {
-                // Dropping them by a call is proved faster.
-                drop(tables);
-                Err((fail, keeper))
-            }
+        match open_tables(alloc, &mut keeper, count, steps) {
+            Ok(tables) => Ok(Library { tables, keeper }),
+            Err(fail) => Err((fail, keeper)),
         }
     }
 
