@@ -7,12 +7,15 @@ mod lines;
 mod near_files;
 mod plain_fold;
 mod plain_library;
+mod plain_siblings;
 mod plain_tags;
 mod playing;
 mod random_session;
+mod random_siblings;
 mod random_tags;
 mod rows;
 mod scripts;
+mod spelling;
 mod tagging;
 mod undoing;
 
