@@ -13,7 +13,7 @@ use std::thread::Threads;
 
 const UNKNOWN_FILE: &str = "{\"error\":\"unknown_file\"}\n";
 
-const UNKNOWN_TAG: &str = "{\"error\":\"unknown_tag\"}\n";
+pub(super) const UNKNOWN_TAG: &str = "{\"error\":\"unknown_tag\"}\n";
 
 const TAG_0: &str = "{\"tag\":0,\"changed\":true}\n";
 
@@ -21,9 +21,9 @@ const SERVICE_0: &str = "{\"service\":0}\n";
 
 const SERVICE_1: &str = "{\"service\":1}\n";
 
-const NOT_KEPT: &str = "{\"error\":\"not_kept\"}\n";
+pub(super) const NOT_KEPT: &str = "{\"error\":\"not_kept\"}\n";
 
-const JOURNAL_FULL: &str = "{\"error\":\"journal_full\"}\n";
+pub(super) const JOURNAL_FULL: &str = "{\"error\":\"journal_full\"}\n";
 
 /// How a session over a keeper ended.
 #[derive(Drop)]
@@ -75,24 +75,24 @@ fn ended_over(
 
 /// A session over a keeper, and what it must leave.
 #[derive(Clone, Copy)]
-struct Case {
-    lines: &'static [Line],
+pub(super) struct Case {
+    pub(super) lines: &'static [Line],
     /// How many bytes a read gives at most.
-    piece: usize,
+    pub(super) piece: usize,
     /// The call of the keeper that fails, if this isn't 0.
-    failing_call: u64,
+    pub(super) failing_call: u64,
     /// How many changes the keeper has room for.
-    limit: u64,
+    pub(super) limit: u64,
     /// The write of the session that fails, if this isn't 0.
-    failing_write: u64,
-    status: Status,
-    replies: &'static [&'static str],
-    kept: usize,
+    pub(super) failing_write: u64,
+    pub(super) status: Status,
+    pub(super) replies: &'static [&'static str],
+    pub(super) kept: usize,
 }
 
 impl Case {
     /// The four lines, and no call fails.
-    const PLAIN: Case = Case {
+    pub(super) const PLAIN: Case = Case {
         lines: &FOUR_LINES,
         piece: 65_536,
         failing_call: 0,
@@ -104,7 +104,7 @@ impl Case {
     };
 
     // Plays it over a keeper that keeps these changes before.
-    fn assert_from(
+    pub(super) fn assert_from(
         &self,
         rt: &(impl Threads + Abort),
         alloc: Global,
@@ -115,7 +115,7 @@ impl Case {
     }
 
     // Plays it over this keeper, which comes back.
-    fn assert_over(
+    pub(super) fn assert_over(
         &self,
         rt: &(impl Threads + Abort),
         alloc: Global,
@@ -136,8 +136,12 @@ impl Case {
     }
 }
 
-// Each over a keeper that keeps nothing before.
-fn assert_all(rt: &(impl Threads + Abort), alloc: Global, cases: &[Case]) -> Result<(), Fail> {
+/// Each over a keeper that keeps nothing before.
+pub(super) fn assert_all(
+    rt: &(impl Threads + Abort),
+    alloc: Global,
+    cases: &[Case],
+) -> Result<(), Fail> {
     for case in cases {
         drop(case.assert_from(rt, alloc, ChangeList::new(alloc))?);
     }

@@ -86,6 +86,11 @@ pub enum Line {
     Unmap(u32, &'static str, u32),
     /// The tags that a service maps to a file.
     Mappings(u32, u32),
+    /// The pair of a bad tag and its good one is recorded in a service. The tags stand as JSON spells them.
+    AddSibling(u32, &'static str, &'static str),
+    RemoveSibling(u32, &'static str, &'static str),
+    /// The ideal tag of a tag in a service.
+    Ideal(u32, &'static str),
     /// So many spaces.
     Spaces(usize),
     Text(&'static str),
@@ -105,46 +110,30 @@ impl Line {
             Line::HashedTwice(sha, one, other) => write_import(input, *sha, &[*one, *other]),
             Line::Delete(file) => write_asked(input, "delete", "file", *file),
             Line::Undelete(file) => write_asked(input, "undelete", "file", *file),
-            Line::Decide(code, a, b) => {
-                let code = code.number();
-                writeln!(
-                    input,
-                    "{{\"do\":\"decide\",\"code\":{code},\"a\":{a},\"b\":{b}}}"
-                )
-            }
+            Line::Decide(code, a, b) => write_decide(input, *code, *a, *b),
             Line::Undo(decision) => write_asked(input, "undo", "decision", *decision),
             Line::Relations(file) => write_asked(input, "relations", "file", *file),
             Line::Decision(decision) => write_asked(input, "decision", "decision", *decision),
             Line::Page(place, n, at_most) => write_page(input, *place, *n, *at_most),
-            Line::PairCount(at_most) => {
-                write_asked(input, "pair_count", "at_most", u32::from(*at_most))
-            }
-            Line::SearchDistance(distance) => {
-                write_asked(input, "search_distance", "distance", u32::from(*distance))
-            }
+            Line::PairCount(at_most) => write_within(input, "pair_count", "at_most", *at_most),
+            Line::SearchDistance(d) => write_within(input, "search_distance", "distance", *d),
             Line::SearchJob(n) => write_asked(input, "search_job", "n", *n),
             Line::Search(file, distance) => write_search(input, &[*file], *distance),
-            Line::SearchBoth(one, other, distance) => {
-                write_search(input, &[*one, *other], *distance)
-            }
+            Line::SearchBoth(a, b, distance) => write_search(input, &[*a, *b], *distance),
             Line::Apply(service, siblings, parents) => {
-                writeln!(
-                    input,
-                    "{{\"do\":\"apply\",\"service\":{service},\"siblings\":{siblings:?},\"parents\":{parents:?}}}"
-                )
+                write_apply(input, *service, siblings, parents)
             }
             Line::Map(service, tag, file, state) => write_map(input, *service, tag, *file, *state),
             Line::Unmap(service, tag, file) => write_unmap(input, *service, tag, *file),
-            Line::Mappings(service, file) => {
-                writeln!(
-                    input,
-                    "{{\"do\":\"mappings\",\"service\":{service},\"file\":{file}}}"
-                )
+            Line::Mappings(service, file) => write_mappings(input, *service, *file),
+            Line::AddSibling(service, bad, good) => {
+                write_pair(input, "add_sibling", *service, bad, good)
             }
-            Line::Spaces(count) => {
-                push_spaces(input, *count)?;
-                input.push('\n')
+            Line::RemoveSibling(service, bad, good) => {
+                write_pair(input, "remove_sibling", *service, bad, good)
             }
+            Line::Ideal(service, tag) => write_ideal(input, *service, tag),
+            Line::Spaces(count) => write_spaces(input, *count),
             Line::Text(text) => input.push_str(text),
         }
     }
@@ -168,6 +157,24 @@ fn write_asked(input: &mut String, name: &str, field: &str, value: u32) -> Resul
     writeln!(input, "{{\"do\":\"{name}\",\"{field}\":{value}}}")
 }
 
+// The same, where the field is a distance.
+fn write_within(
+    input: &mut String,
+    name: &str,
+    field: &str,
+    distance: u8,
+) -> Result<(), AllocError> {
+    write_asked(input, name, field, u32::from(distance))
+}
+
+fn write_decide(input: &mut String, code: Code, a: u32, b: u32) -> Result<(), AllocError> {
+    let code = code.number();
+    writeln!(
+        input,
+        "{{\"do\":\"decide\",\"code\":{code},\"a\":{a},\"b\":{b}}}"
+    )
+}
+
 fn write_page(
     input: &mut String,
     place: Option<(u32, u32)>,
@@ -185,6 +192,18 @@ fn write_search(input: &mut String, files: &[u32], distance: u8) -> Result<(), A
     writeln!(
         input,
         "{{\"do\":\"search_files\",\"files\":{files:?},\"distance\":{distance}}}"
+    )
+}
+
+fn write_apply(
+    input: &mut String,
+    service: u32,
+    siblings: &[u32],
+    parents: &[u32],
+) -> Result<(), AllocError> {
+    writeln!(
+        input,
+        "{{\"do\":\"apply\",\"service\":{service},\"siblings\":{siblings:?},\"parents\":{parents:?}}}"
     )
 }
 
@@ -216,11 +235,45 @@ pub fn write_unmap(
     )
 }
 
+fn write_mappings(input: &mut String, service: u32, file: u32) -> Result<(), AllocError> {
+    writeln!(
+        input,
+        "{{\"do\":\"mappings\",\"service\":{service},\"file\":{file}}}"
+    )
+}
+
+/// The line of `AddSibling` or `RemoveSibling`, by its name, for tags that aren't known beforehand.
+pub fn write_pair(
+    input: &mut String,
+    name: &str,
+    service: u32,
+    bad: &str,
+    good: &str,
+) -> Result<(), AllocError> {
+    writeln!(
+        input,
+        "{{\"do\":\"{name}\",\"service\":{service},\"bad\":\"{bad}\",\"good\":\"{good}\"}}"
+    )
+}
+
+/// The line of `Ideal`, for a tag that isn't known beforehand.
+pub fn write_ideal(input: &mut String, service: u32, tag: &str) -> Result<(), AllocError> {
+    writeln!(
+        input,
+        "{{\"do\":\"ideal\",\"service\":{service},\"tag\":\"{tag}\"}}"
+    )
+}
+
 pub fn push_spaces(input: &mut String, count: usize) -> Result<(), AllocError> {
     for _ in 0..count {
         input.push(' ')?;
     }
     Ok(())
+}
+
+fn write_spaces(input: &mut String, count: usize) -> Result<(), AllocError> {
+    push_spaces(input, count)?;
+    input.push('\n')
 }
 
 pub fn input_of(alloc: Global, lines: &[Line]) -> Result<String, AllocError> {

@@ -1,7 +1,8 @@
 //! Files, services and mappings in the plainest way: lists in the order of first use, which each command goes
-//! over.
+//! over. `plain_siblings` has the commands of sibling pairs.
 
 use crate::tests::lines::{Line, State};
+use crate::tests::plain_siblings::PlainSiblings;
 use crate::tests::scripts::Script;
 use std::alloc::{AllocError, Global};
 
@@ -28,23 +29,27 @@ impl PlainMapping {
 
 #[derive(Drop)]
 pub struct PlainTags {
-    alloc: Global,
+    pub(super) alloc: Global,
     files: Vec<PlainFile>,
     /// How many services there are.
     services: u32,
-    tags: Vec<String>,
+    pub(super) tags: Vec<String>,
     mappings: Vec<PlainMapping>,
+    pub(super) siblings: PlainSiblings,
 }
 
 impl PlainTags {
-    pub fn new(alloc: Global) -> PlainTags {
-        PlainTags {
+    pub fn new(alloc: Global) -> Result<PlainTags, AllocError> {
+        let mut siblings = PlainSiblings::new(alloc);
+        siblings.set_order(0, &[0])?;
+        Ok(PlainTags {
             alloc,
             files: Vec::new(alloc),
             services: 1,
             tags: Vec::new(alloc),
             mappings: Vec::new(alloc),
-        }
+            siblings,
+        })
     }
 
     /// How many files there are.
@@ -70,15 +75,14 @@ impl PlainTags {
     /// The service, the text and the file of the mapping of this place among them.
     pub fn mapping_at(&self, place: usize) -> Option<(u32, &str, u32)> {
         let mapping = self.mappings.get(place)?;
-        let text = self.tags.get(mapping.tag)?;
-        Some((mapping.service, text.as_str(), mapping.file))
+        Some((mapping.service, self.text(mapping.tag)?, mapping.file))
     }
 
-    fn refused(&self, why: &str) -> Result<String, AllocError> {
+    pub(super) fn refused(&self, why: &str) -> Result<String, AllocError> {
         format!(in self.alloc; "{{\"error\":\"{why}\"}}")
     }
 
-    fn changed(&self, changed: bool) -> Result<String, AllocError> {
+    pub(super) fn changed(&self, changed: bool) -> Result<String, AllocError> {
         format!(in self.alloc; "{{\"changed\":{changed}}}")
     }
 
@@ -111,6 +115,7 @@ impl PlainTags {
     pub fn add_service(&mut self) -> Result<String, AllocError> {
         let number = self.services;
         self.services = number.wrapping_add(1);
+        self.siblings.set_order(number, &[number])?;
         format!(in self.alloc; "{{\"service\":{number}}}")
     }
 
@@ -120,12 +125,13 @@ impl PlainTags {
     }
 
     pub fn apply(
-        &self,
+        &mut self,
         service: u32,
         siblings: &[u32],
         parents: &[u32],
     ) -> Result<String, AllocError> {
         if self.has_all(&[service]) && self.has_all(siblings) && self.has_all(parents) {
+            self.siblings.set_order(service, siblings)?;
             return format!(in self.alloc; "{{\"service\":{service}}}");
         }
         self.refused("unknown_service")
@@ -142,13 +148,19 @@ impl PlainTags {
         None
     }
 
+    // The text that has this number.
+    pub(super) fn text(&self, number: usize) -> Option<&str> {
+        let text = self.tags.get(number)?;
+        Some(text.as_str())
+    }
+
     // The place of the text among those that have a number.
-    fn number(&self, text: &str) -> Option<usize> {
+    pub(super) fn number(&self, text: &str) -> Option<usize> {
         self.tags.iter().position(|tag| tag.as_str() == text)
     }
 
     // The same, where a new text comes behind the others.
-    fn number_or_next(&mut self, text: &str) -> Result<usize, AllocError> {
+    pub(super) fn number_or_next(&mut self, text: &str) -> Result<usize, AllocError> {
         if let Some(number) = self.number(text) {
             return Ok(number);
         }
@@ -225,7 +237,7 @@ impl PlainTags {
         let mut between = "";
         for row in rows {
             if row.state == state
-                && let Some(text) = self.tags.get(row.tag)
+                && let Some(text) = self.text(row.tag)
             {
                 write!(list, "{between}\"{text}\"")?;
                 between = ",";
@@ -248,15 +260,16 @@ impl PlainTags {
         )
     }
 
-    /// Asks for the mappings of all files in all services.
+    /// Asks in all services for the mappings of all files and the ideal tags of all tags.
     pub fn ask_all(&self, script: &mut Script) -> Result<(), AllocError> {
         for service in 0..self.services {
-            self.ask_all_of(service, script)?;
+            self.ask_for_mappings(service, script)?;
+            self.ask_for_ideals(service, script)?;
         }
         Ok(())
     }
 
-    fn ask_all_of(&self, service: u32, script: &mut Script) -> Result<(), AllocError> {
+    fn ask_for_mappings(&self, service: u32, script: &mut Script) -> Result<(), AllocError> {
         for file in 0..self.files() {
             let reply = self.mappings_of(service, file)?;
             script.say(Line::Mappings(service, file), &reply)?;

@@ -5,6 +5,7 @@ use crate::tests::keepers::keeper_of;
 use crate::tests::lines::{Line, State, write_map, write_unmap};
 use crate::tests::plain_tags::PlainTags;
 use crate::tests::scripts::Script;
+use crate::tests::spelling::{any_tag, spelled};
 use media_base::ChangeList;
 use media_keeper::MemoryKeeper;
 use std::alloc::{AllocError, Global};
@@ -12,35 +13,16 @@ use std::process::Abort;
 use std::test::Fail;
 use std::thread::Threads;
 
-const LINES: u32 = 2_000;
+const LINES: u32 = 3_000;
 
 // The files have SHA-256s up to this number.
 const LAST_SHA: u32 = 29;
 
 const SERVICES: u32 = 3;
 
-// A clean tag, as JSON spells it, is one of these words and one of the endings.
-const WORDS: [&str; 8] = [
-    "zebra",
-    "a",
-    "été",
-    "\\\"quoted\\\"",
-    "creator:ann b",
-    "x",
-    "/1girl",
-    "𝄞 q",
-];
-
-const ENDINGS: [&str; 5] = ["", " b", " \\\\", " Ünder", "x"];
-
-// White space, as JSON spells it.
-const BLANKS: [&str; 7] = [
-    " ", "\\t", "\\n", "\\u0085", "\\u2003", "\u{3000}", "\u{a0}",
-];
-
 const ORDERS: [&[u32]; 7] = [&[], &[0], &[1], &[1, 0], &[2, 0, 1], &[0, 2], &[0, 3]];
 
-const FAULTY: [(&str, &str); 6] = [
+const FAULTY: [(&str, &str); 8] = [
     (
         "{\"do\":\"map\",\"service\":0,\"tag\":\" \\t\",\"file\":0,\"state\":\"current\"}\n",
         r#"{"error":"bad_tag"}"#,
@@ -65,37 +47,15 @@ const FAULTY: [(&str, &str); 6] = [
         "{\"do\":\"mappings\",\"service\":0}\n",
         r#"{"error":"not_a_request","field":"file"}"#,
     ),
+    (
+        "{\"do\":\"add_sibling\",\"service\":0,\"bad\":\"new\",\"good\":\" \"}\n",
+        r#"{"error":"bad_tag"}"#,
+    ),
+    (
+        "{\"do\":\"remove_sibling\",\"service\":0,\"good\":\"a\"}\n",
+        r#"{"error":"not_a_request","field":"bad"}"#,
+    ),
 ];
-
-// White space that is cut, or becomes one space.
-fn push_blanks(spelled: &mut String, chance: &mut Chance, least: usize) -> Result<(), AllocError> {
-    for _ in 0..chance.below(3).saturating_add(least) {
-        spelled.push_str(BLANKS[chance.below(7)])?;
-    }
-    Ok(())
-}
-
-// A character of a clean tag. A to Z become a to z.
-fn push_said(spelled: &mut String, chance: &mut Chance, c: char) -> Result<(), AllocError> {
-    if c == ' ' {
-        return push_blanks(spelled, chance, 1);
-    }
-    if chance.below(2) == 0 {
-        return spelled.push(c.to_ascii_uppercase());
-    }
-    spelled.push(c)
-}
-
-// Another text that says the tag of this clean one.
-fn spelled(alloc: Global, text: &str, chance: &mut Chance) -> Result<String, AllocError> {
-    let mut spelled = String::new(alloc);
-    push_blanks(&mut spelled, chance, 0)?;
-    for c in text.chars() {
-        push_said(&mut spelled, chance, c)?;
-    }
-    push_blanks(&mut spelled, chance, 0)?;
-    Ok(spelled)
-}
 
 /// A service, a clean text and a file, which may be mapped to one another.
 #[derive(Drop)]
@@ -107,11 +67,11 @@ struct Triple {
 
 /// A session of random commands, with the replies of plain lists.
 #[derive(Drop)]
-struct RandomTags {
-    alloc: Global,
-    chance: Chance,
-    plain: PlainTags,
-    script: Script,
+pub struct RandomTags {
+    pub(super) alloc: Global,
+    pub(super) chance: Chance,
+    pub(super) plain: PlainTags,
+    pub(super) script: Script,
 }
 
 impl RandomTags {
@@ -119,14 +79,14 @@ impl RandomTags {
         Ok(RandomTags {
             alloc,
             chance: Chance::new(seed),
-            plain: PlainTags::new(alloc),
+            plain: PlainTags::new(alloc)?,
             script: Script::with_files(alloc, 0)?,
         })
     }
 
     // The next line.
     fn ask(&mut self) -> Result<(), AllocError> {
-        match self.chance.below(40) {
+        match self.chance.below(60) {
             0..=2 => self.import(),
             3 => self.mark(false),
             4 => self.mark(true),
@@ -135,6 +95,9 @@ impl RandomTags {
             8..=21 => self.map(),
             22..=29 => self.unmap(),
             30..=38 => self.ask_for_mappings(),
+            39..=47 => self.add_sibling(),
+            48..=51 => self.remove_sibling(),
+            52..=58 => self.ask_for_ideal(),
             _ => self.say_faulty(),
         }
     }
@@ -145,7 +108,7 @@ impl RandomTags {
     }
 
     // A service, or now and then the number behind the last.
-    fn service(&mut self) -> u32 {
+    pub(super) fn service(&mut self) -> u32 {
         match self.chance.below(12) {
             0 => self.plain.services(),
             _ => self.chance.up_to(self.plain.services().saturating_sub(1)),
@@ -186,17 +149,10 @@ impl RandomTags {
             .say(Line::Apply(service, siblings, parents), &reply)
     }
 
-    // Any of the tags.
-    fn text(&mut self) -> Result<String, AllocError> {
-        let word = WORDS[self.chance.below(8)];
-        let ending = ENDINGS[self.chance.below(5)];
-        format!(in self.alloc; "{word}{ending}")
-    }
-
     fn any_triple(&mut self) -> Result<Triple, AllocError> {
         Ok(Triple {
             service: self.service(),
-            text: self.text()?,
+            text: any_tag(self.alloc, &mut self.chance)?,
             file: self.file(),
         })
     }
@@ -252,7 +208,7 @@ impl RandomTags {
     }
 
     fn say_faulty(&mut self) -> Result<(), AllocError> {
-        let (line, reply) = FAULTY[self.chance.below(6)];
+        let (line, reply) = FAULTY[self.chance.below(8)];
         self.script.say(Line::Text(line), reply)
     }
 
@@ -263,13 +219,15 @@ impl RandomTags {
         Ok(())
     }
 
-    // Asks for all mappings. There are many, of most of the tags.
+    // Asks for all mappings, of which there are many of most of the tags, and for all ideal tags.
     fn ask_all(&mut self, rt: &impl Abort) -> Result<(), AllocError> {
         let (tags, mappings) = (self.plain.tags(), self.plain.mappings());
         assert!(rt;
             30 < tags && 100 < mappings,
             "{mappings} mappings of {tags} tags"
         );
+        let siblings = self.plain.siblings();
+        assert!(rt; 5 < siblings, "{siblings} sibling pairs");
         self.plain.ask_all(&mut self.script)
     }
 
@@ -283,7 +241,7 @@ impl RandomTags {
         self.script.assert_answered_over(rt, empty, "random tags")
     }
 
-    // What was kept is opened, and asked for all mappings.
+    // What was kept is opened, and asked for all mappings and all ideal tags.
     fn assert_kept(
         &self,
         rt: &(impl Threads + Abort),

@@ -3,7 +3,7 @@
 ghost use Rattle.std.specs.Prelude.{◌<◌};
 
 use crate::tests::keepers::session_over;
-use crate::tests::lines::Line;
+use crate::tests::lines::{Line, write_ideal, write_pair};
 use crate::tests::playing::{Manner, played};
 use media_base::{NoMemory, Status};
 use media_keeper::MemoryKeeper;
@@ -52,6 +52,41 @@ impl Script {
     /// The next line has this text and its line feed.
     pub fn say_text(&mut self, line: &str, reply: &str) -> Result<(), AllocError> {
         self.input.push_str(line)?;
+        writeln!(self.replies, "{reply}")
+    }
+
+    /// The next line records a sibling pair.
+    pub fn add_sibling(
+        &mut self,
+        service: u32,
+        bad: &str,
+        good: &str,
+        reply: &str,
+    ) -> Result<(), AllocError> {
+        write_pair(&mut self.input, "add_sibling", service, bad, good)?;
+        writeln!(self.replies, "{reply}")
+    }
+
+    /// The next line removes a sibling pair.
+    pub fn remove_sibling(
+        &mut self,
+        service: u32,
+        bad: &str,
+        good: &str,
+        reply: &str,
+    ) -> Result<(), AllocError> {
+        write_pair(&mut self.input, "remove_sibling", service, bad, good)?;
+        writeln!(self.replies, "{reply}")
+    }
+
+    /// The next line asks for the ideal tag of a tag.
+    pub fn ask_for_ideal(
+        &mut self,
+        service: u32,
+        tag: &str,
+        reply: &str,
+    ) -> Result<(), AllocError> {
+        write_ideal(&mut self.input, service, tag)?;
         writeln!(self.replies, "{reply}")
     }
 

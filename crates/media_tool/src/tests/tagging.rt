@@ -5,19 +5,19 @@ use crate::tests::lines::State::{Current, Deleted, Pending};
 use crate::tests::rows::{CHANGED, Case, UNCHANGED, UNKNOWN_FILE, assert_all};
 use std::test::Fail;
 
-const UNKNOWN_SERVICE: &str = r#"{"error":"unknown_service"}"#;
+pub(super) const UNKNOWN_SERVICE: &str = r#"{"error":"unknown_service"}"#;
 
-const UNKNOWN_TAG: &str = r#"{"error":"unknown_tag"}"#;
+pub(super) const UNKNOWN_TAG: &str = r#"{"error":"unknown_tag"}"#;
 
-const BAD_TAG: &str = r#"{"error":"bad_tag"}"#;
+pub(super) const BAD_TAG: &str = r#"{"error":"bad_tag"}"#;
 
 const FULL_SERVICES: &str = r#"{"error":"full_services"}"#;
 
 const NO_TAGS: &str = r#"{"current":[],"pending":[],"deleted":[]}"#;
 
-const SERVICE_0: &str = r#"{"service":0}"#;
+pub(super) const SERVICE_0: &str = r#"{"service":0}"#;
 
-const SERVICE_1: &str = r#"{"service":1}"#;
+pub(super) const SERVICE_1: &str = r#"{"service":1}"#;
 
 const MAPPINGS: [Case; 6] = [
     Case {
@@ -216,7 +216,7 @@ const SERVICES: [Case; 2] = [
     },
 ];
 
-const BAD_SERVICE: &str = r#"{"error":"not_a_request","field":"service"}"#;
+pub(super) const BAD_SERVICE: &str = r#"{"error":"not_a_request","field":"service"}"#;
 
 const BAD_SIBLINGS: &str = r#"{"error":"not_a_request","field":"siblings"}"#;
 
