@@ -1,6 +1,6 @@
 -- The row that stands for a pair.
-use Rattle.std.proofs.Common.{◌≡◌, ◌∙◌, ℕ, zero, suc, ◌<◌, ◌==◌, ◌&&◌, Bool, true, false, List, [], ◌∷◌, length, map, get_or, Some, None, slice_get, set, refl, sym, ap, inl, inr, arith}
-use Rattle.std.specs.List.{AllByRecursion}
+use Rattle.std.proofs.Common.{◌≡◌, ◌∙◌, ℕ, zero, suc, ◌+◌, ◌-◌, ◌<◌, ◌≤◌, ◌==◌, ◌&&◌, Bool, true, false, List, [], ◌∷◌, length, length-append, filter, map, get_or, Option, Some, None, slice_get, set, refl, sym, ap, inl, inr, arith}
+use Rattle.std.specs.List.{AllByRecursion, range_with_len}
 use Rattle.std.proofs.lemmas.Bool.{cases_lt, and_parts, false_from_ne_true}
 use Rattle.std.proofs.lemmas.List.Elements.{All-from_recursion, recursion_from_All}
 use Rattle.sibling_chains.specs.declared.relation_row.RelationRow.{RelationRow}
@@ -8,7 +8,9 @@ use Rattle.sibling_chains.specs.Ends.{at}
 use Rattle.sibling_chains.specs.Grouping.{IsNext}
 use Rattle.sibling_chains.specs.Recorded.{no_row, removed, removed_at}
 use Rattle.sibling_chains.specs.RowLaws.{length-removed}
-use Rattle.parent_closure.specs.Kept.{AreKept, IsFirstPlace, is_pair}
+use Rattle.sibling_chains.specs.NumberLaws.{filter-by-place, passed-le, passed-next}
+use Rattle.std.proofs.lemmas.List.{length-map}
+use Rattle.parent_closure.specs.Kept.{AreKept, IsFirstPlace, is_pair, rows_of}
 
 pub first-at : (test : RelationRow → Bool) (rows : List RelationRow) (n : ℕ) → n < length rows → test (get_or rows n no_row) ≡ true
     → ((k : ℕ) → k < n → test (get_or rows k no_row) ≡ false) → IsFirstPlace test rows (Some n)
@@ -29,6 +31,9 @@ pub child-at : (rows : List RelationRow) (k d : ℕ) → k < length rows → get
 child-at [] k d lt = absurd (omega (arith, lt))
 child-at (row ∷ rows) zero d lt = refl
 child-at (row ∷ rows) (suc k) d lt = child-at rows k d (omega (arith, lt))
+
+label-at : (rows : List RelationRow) (labels : List ℕ) (k : ℕ) → labels ≡ map (λ row. row.first.0) rows → k < length rows → at labels k ≡ (get_or rows k no_row).first.0
+label-at rows labels k e lt = ap (λ (l : List ℕ). at l k) e ∙ child-at rows k k lt
 
 -- the row of another child isn't the pair's
 pub other-child : (s child parent : ℕ) (row : RelationRow) → (row.first.0 == child ≡ true → ⊥) → is_pair s child parent row ≡ false
@@ -90,3 +95,41 @@ kept-removed n rows labels tags h = record {
     still n [] a = tt
     still zero (row ∷ rows) a = a
     still (suc n) (row ∷ rows) a = (a.0, still n rows a.1)
+
+-- ---- how many rows a child has
+
+-- how many of the rows before a place are the child's
+abbrev pub places_below : List RelationRow → ℕ → ℕ → ℕ
+places_below rows child n = length (filter (λ k. (get_or rows k no_row).first.0 == child) (range_with_len 0 n))
+
+pub places-all : (rows : List RelationRow) (child : ℕ) → places_below rows child (length rows) ≡ length (rows_of rows child)
+places-all rows child =
+    sym (ap length (filter-by-place (λ (row : RelationRow). row.first.0 == child) no_row rows)
+    ∙ length-map (filter (λ k. (get_or rows k no_row).first.0 == child) (range_with_len 0 (length rows))) (λ k. get_or rows k no_row))
+
+-- the next row of the child by the labels is the next by the rows
+next-row : (rows : List RelationRow) (labels : List ℕ) (child from : ℕ) (found : Option ℕ) → labels ≡ map (λ row. row.first.0) rows → length labels ≡ length rows
+    → IsNext (length labels) (λ n. at labels n == child) from found → IsNext (length rows) (λ k. (get_or rows k no_row).first.0 == child) from found
+next-row rows labels child from None e len next = λ k lt here. next k (omega (arith, lt, len)) (ap (λ x. x == child) (label-at rows labels k e lt) ∙ here)
+next-row rows labels child from (Some m) e len next =
+    let lt : m < length rows = omega (arith, next.0, len) in (
+      lt,
+      next.1,
+      ap (λ x. x == child) (sym (label-at rows labels m e lt)) ∙ next.2,
+      λ k less past here. next.3 k (omega (arith, less, len)) past (ap (λ x. x == child) (label-at rows labels k e less) ∙ here),
+    )
+
+-- one more is read
+pub places-next : (rows : List RelationRow) (labels : List ℕ) (child from m : ℕ) → labels ≡ map (λ row. row.first.0) rows → length labels ≡ length rows
+    → IsNext (length labels) (λ n. at labels n == child) from (Some m) → places_below rows child (m + 1) ≡ places_below rows child from + 1
+places-next rows labels child from m e len next =
+    let test : ℕ → Bool = λ k. (get_or rows k no_row).first.0 == child in
+    ap length (passed-next (length rows) test from m (next-row rows labels child from (Some m) e len next))
+    ∙ length-append (filter test (range_with_len 0 from)) (m ∷ [])
+
+-- no more than there are
+pub places-few : (rows : List RelationRow) (child n : ℕ) → n ≤ length rows → places_below rows child n ≤ length (rows_of rows child)
+places-few rows child n le =
+    let more = passed-le (λ k. (get_or rows k no_row).first.0 == child) n (length rows - n) (length rows) (omega (arith, le)) in
+    let all = places-all rows child in
+    omega (arith, more, all)

@@ -3,6 +3,7 @@ use Rattle.std.specs.Prelude.{◌≡◌, ◌<◌, ◌≤◌, ℕ, suc, Bool, fal
 use Rattle.std.specs.List.{list_any}
 use Rattle.media_types.specs.declared.numbers.ServiceNo.{ServiceNo}
 use Rattle.tag_types.specs.declared.limits.TheConstants.{MAX_RELATIONS, MAX_TAGS}
+use Rattle.sibling_chains.specs.Clusters.{rows_within}
 use Rattle.sibling_chains.specs.declared.relation_row.RelationRow.{RelationRow}
 
 -- the rows of parent pairs in order of recording, removed ones among them; by service the services whose pairs
@@ -27,6 +28,10 @@ is_pair s child parent row = row.standing && row.service.0 == s && row.first.0 =
 -- the pair stands
 abbrev pub stands_in : List RelationRow → ℕ → ℕ → ℕ → Bool
 stands_in rows s child parent = list_any (is_pair s child parent) rows
+
+-- the rows of a child, removed ones among them
+abbrev pub rows_of : List RelationRow → ℕ → List RelationRow
+rows_of rows child = rows_within (λ t. t == child) rows
 
 -- the number of the first row that passes a test, or the number of rows where none does
 abbrev pub first_place : (RelationRow → Bool) → List RelationRow → ℕ

@@ -1,7 +1,7 @@
-ghost use Rattle.std.specs.Prelude.{◌≡◌, ℕ, ◌+◌, ◌<◌, ◌≤◌, [], ◌∷◌, ◌++◌, true, false, All, length, Some, IfOk, OnOk, slice_get, slice_set};
+ghost use Rattle.std.specs.Prelude.{◌≡◌, ℕ, ◌+◌, ◌*◌, ◌<◌, ◌≤◌, [], ◌∷◌, ◌++◌, true, false, All, length, Some, IfOk, OnOk, slice_get, slice_set};
 ghost use Rattle.tag_types.specs.declared.limits.TheConstants.{MAX_RELATIONS, MAX_SERVICES, MAX_TAGS};
 ghost use Rattle.sibling_chains.specs.Recorded.{removed_at};
-ghost use Rattle.parent_closure.specs.Kept.{IsFirstPlace, IsSame, first_place, is_pair, stands_in};
+ghost use Rattle.parent_closure.specs.Kept.{IsFirstPlace, IsSame, first_place, is_pair, rows_of, stands_in};
 ghost use Rattle.parent_closure.specs.Planning.{IsAdding, IsPlanFor, IsRemoving, after};
 
 use crate::parent_plan::{Change, Ordered, ParentPlan, Removing};
@@ -138,7 +138,8 @@ impl Parents {
         parent: TagNo,
         steps: &mut Steps<L>,
     ) -> Option<u32>
-        ensures { IsFirstPlace (is_pair service.0 child.0 parent.0) self.now.rows result }
+        ensures place { IsFirstPlace (is_pair service.0 child.0 parent.0) self.now.rows result }
+        ensures reads { steps.new ≤ steps.old + (1 + 2 * length (rows_of self.now.rows child.0)) }
     {
         let mut from = 0;
         while let Some(number) = self.children.next(child.0, from, steps) {
@@ -150,7 +151,7 @@ impl Parents {
         None
     }
 
-    /// Whether a pair stands. It looks at the child's rows, removed ones among them.
+    /// Whether a pair stands. It counts as one read, and two for each of the child's rows.
     pub fn stands<L: Ledger>(
         &self,
         service: ServiceNo,
@@ -158,7 +159,8 @@ impl Parents {
         parent: TagNo,
         steps: &mut Steps<L>,
     ) -> bool
-        ensures { result ≡ stands_in self.now.rows service.0 child.0 parent.0 }
+        ensures stands { result ≡ stands_in self.now.rows service.0 child.0 parent.0 }
+        ensures reads { steps.new ≤ steps.old + (1 + 2 * length (rows_of self.now.rows child.0)) }
     {
         self.place_of(service, child, parent, steps).is_some()
     }
@@ -196,7 +198,8 @@ impl Parents {
         })
     }
 
-    /// Plans to remove a standing pair. It takes no memory, and changes nothing.
+    /// Plans to remove a standing pair. It takes no memory, and changes nothing. It counts as two reads, and two
+    /// for each of the child's rows.
     #[tactic(auto, unfolding(crate::specs::Planning::after, crate::specs::Planning::IsPlanFor))]
     pub fn plan_remove<L: Ledger>(
         &self,
@@ -210,6 +213,7 @@ impl Parents {
         ensures after { after result self.now ≡ record self.now {
           rows = removed_at (first_place (is_pair service.0 child.0 parent.0) self.now.rows) self.now.rows;
         } }
+        ensures reads { steps.new ≤ steps.old + (2 + 2 * length (rows_of self.now.rows child.0)) }
     {
         let number = self.place_of(service, child, parent, steps).unwrap();
         let row = RelationRow {
