@@ -1,5 +1,5 @@
 -- The row that stands for a pair.
-use Rattle.std.proofs.Common.{◌≡◌, ◌∙◌, ℕ, zero, suc, ◌+◌, ◌-◌, ◌<◌, ◌≤◌, ◌==◌, ◌&&◌, Bool, true, false, List, [], ◌∷◌, length, length-append, filter, map, get_or, Option, Some, None, slice_get, set, refl, sym, ap, inl, inr, arith}
+use Rattle.std.proofs.Common.{◌≡◌, ◌∙◌, ℕ, zero, suc, ◌+◌, ◌-◌, ◌<◌, ◌≤◌, ◌==◌, ◌&&◌, Bool, true, false, List, [], ◌∷◌, ◌++◌, length, length-append, filter, map, get_or, Option, Some, None, slice_get, set, refl, sym, ap, inl, inr, arith}
 use Rattle.std.specs.List.{AllByRecursion, range_with_len}
 use Rattle.std.proofs.lemmas.Bool.{cases_lt, and_parts, false_from_ne_true}
 use Rattle.std.proofs.lemmas.List.Elements.{All-from_recursion, recursion_from_All}
@@ -8,8 +8,9 @@ use Rattle.sibling_chains.specs.Ends.{at}
 use Rattle.sibling_chains.specs.Grouping.{IsNext}
 use Rattle.sibling_chains.specs.Recorded.{no_row, removed, removed_at}
 use Rattle.sibling_chains.specs.RowLaws.{length-removed}
-use Rattle.sibling_chains.specs.NumberLaws.{filter-by-place, passed-le, passed-next}
-use Rattle.std.proofs.lemmas.List.{length-map}
+use Rattle.sibling_chains.specs.Clustered.{rows_but}
+use Rattle.sibling_chains.specs.NumberLaws.{filter-by-place, passed-end, passed-le, passed-next}
+use Rattle.std.proofs.lemmas.List.{length-map, map-append}
 use Rattle.parent_closure.specs.Kept.{AreKept, IsFirstPlace, is_pair, rows_of}
 
 pub first-at : (test : RelationRow → Bool) (rows : List RelationRow) (n : ℕ) → n < length rows → test (get_or rows n no_row) ≡ true
@@ -133,3 +134,34 @@ places-few rows child n le =
     let more = passed-le (λ k. (get_or rows k no_row).first.0 == child) n (length rows - n) (length rows) (omega (arith, le)) in
     let all = places-all rows child in
     omega (arith, more, all)
+
+-- ---- the rows of a child, one after the other
+
+-- those before a place
+abbrev pub rows_before : List RelationRow → ℕ → ℕ → List RelationRow
+rows_before rows child n = map (λ k. get_or rows k no_row) (filter (λ k. (get_or rows k no_row).first.0 == child) (range_with_len 0 n))
+
+pub rows-next : (rows : List RelationRow) (labels : List ℕ) (child from m : ℕ) → labels ≡ map (λ row. row.first.0) rows → length labels ≡ length rows
+    → IsNext (length labels) (λ n. at labels n == child) from (Some m) → rows_before rows child (m + 1) ≡ rows_before rows child from ++ get_or rows m no_row ∷ []
+rows-next rows labels child from m e len next =
+    let test : ℕ → Bool = λ k. (get_or rows k no_row).first.0 == child in
+    let row : ℕ → RelationRow = λ k. get_or rows k no_row in
+    ap (map row) (passed-next (length rows) test from m (next-row rows labels child from (Some m) e len next))
+    ∙ map-append row (filter test (range_with_len 0 from)) (m ∷ [])
+
+pub rows-ended : (rows : List RelationRow) (labels : List ℕ) (child from : ℕ) → labels ≡ map (λ row. row.first.0) rows → length labels ≡ length rows → from ≤ length rows
+    → IsNext (length labels) (λ n. at labels n == child) from None → rows_before rows child from ≡ rows_of rows child
+rows-ended rows labels child from e len le next =
+    let test : ℕ → Bool = λ k. (get_or rows k no_row).first.0 == child in
+    let row : ℕ → RelationRow = λ k. get_or rows k no_row in
+    sym (filter-by-place (λ (row : RelationRow). row.first.0 == child) no_row rows
+    ∙ ap (map row) (passed-end (length rows) test from le (next-row rows labels child from None e len next)))
+
+-- a row that is read as removed changes no child, and no number of rows
+pub but-labels : (gone : Option ℕ) (rows : List RelationRow) → map (λ row. row.first.0) (rows_but gone rows) ≡ map (λ row. row.first.0) rows
+but-labels None rows = refl
+but-labels (Some n) rows = firsts-removed n rows
+
+pub but-length : (gone : Option ℕ) (rows : List RelationRow) → length (rows_but gone rows) ≡ length rows
+but-length None rows = refl
+but-length (Some n) rows = length-removed n rows

@@ -11,7 +11,7 @@ use Rattle.sibling_chains.specs.Recorded.{pairs_of}
 use Rattle.parent_closure.specs.declared.parent_plan.ParentPlan.{ParentPlan}
 use Rattle.parent_closure.specs.Ancestors.{Relations, between_ideals}
 use Rattle.parent_closure.specs.Kept.{Kept}
-use Rattle.parent_closure.specs.Planning.{after}
+use Rattle.parent_closure.specs.Planning.{added_of, after, gone_of}
 
 -- what is known of the tags of a service
 abbrev pub relations_of : Kept → Known → ℕ → Relations
@@ -21,6 +21,15 @@ relations_of v w s = record { sibling_order = order_of w s; parent_order = slice
 abbrev pub planned : Option ParentPlan → Kept → Kept
 planned None v = v
 planned (Some plan) v = after plan v
+
+-- the number of the row that a plan removes, and the row that it records, where there are such
+abbrev pub gone_by : Option ParentPlan → Option ℕ
+gone_by None = None
+gone_by (Some plan) = gone_of plan.change
+
+abbrev pub added_by : Option ParentPlan → Option RelationRow
+added_by None = None
+added_by (Some plan) = added_of plan.change
 
 -- the siblings, once a plan is carried out, where there is one
 abbrev pub chained : Option SiblingPlan → Known → Known

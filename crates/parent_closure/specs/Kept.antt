@@ -33,6 +33,11 @@ stands_in rows s child parent = list_any (is_pair s child parent) rows
 abbrev pub rows_of : List RelationRow → ℕ → List RelationRow
 rows_of rows child = rows_within (λ t. t == child) rows
 
+-- the row, where there is one
+abbrev pub rows_with : Option RelationRow → List RelationRow
+rows_with None = []
+rows_with (Some row) = row ∷ []
+
 -- the number of the first row that passes a test, or the number of rows where none does
 abbrev pub first_place : (RelationRow → Bool) → List RelationRow → ℕ
 first_place test [] = 0

@@ -1,5 +1,5 @@
 -- Plans: what a change of the parents comes to, and when it can be carried out.
-use Rattle.std.specs.Prelude.{◌≡◌, ◌<◌, ◌≤◌, [], ◌∷◌, ◌++◌, length, slice_set}
+use Rattle.std.specs.Prelude.{◌≡◌, ◌<◌, ◌≤◌, ℕ, [], ◌∷◌, ◌++◌, length, slice_set, Option, Some, None}
 use Rattle.tag_types.specs.declared.limits.TheConstants.{MAX_RELATIONS}
 use Rattle.sibling_chains.specs.declared.relation_row.RelationRow.{RelationRow}
 use Rattle.sibling_chains.specs.Recorded.{removed_at}
@@ -37,3 +37,15 @@ IsChangeFor (Order it) v = it.service.0 < length v.orders
 -- the plan was made of these parents
 unfoldable pub IsPlanFor : ParentPlan → Kept → Type 0
 IsPlanFor plan v = IsChangeFor plan.change v
+
+-- the number of the row that a change removes, where it removes one
+abbrev pub gone_of : Change → Option ℕ
+gone_of (Add row) = None
+gone_of (Remove it) = Some it.number
+gone_of (Order it) = None
+
+-- the row that a change records, where it records one
+abbrev pub added_of : Change → Option RelationRow
+added_of (Add row) = Some row
+added_of (Remove it) = None
+added_of (Order it) = None

@@ -11,7 +11,7 @@ use Rattle.sibling_chains.specs.Recorded.{ideal, pairs_in}
 use Rattle.sibling_chains.specs.Clusters.{IsClosed, outside}
 use Rattle.sibling_chains.specs.ClusterLaws.{alone, in-closed, in-within, outside-closed}
 use Rattle.parent_closure.specs.Ancestors.{Relations, between_ideals, ideal_of, implies, is_above, leads, steps_of}
-use Rattle.parent_closure.specs.Sets.{IsClosedFor, of_set}
+use Rattle.parent_closure.specs.Sets.{HaveSame, IsClosedFor, of_set, steps_within}
 use Rattle.parent_closure.specs.ChainLaws.{any-within, chains-short, enough}
 
 abbrev Closed : (ℕ → Bool) → List Pair → Type 0
@@ -145,3 +145,38 @@ others-imply S Q R c d same t b = elim (cases_Bool (S t)) [
       ∙ ap (λ r. implies r t b) (sym same)
       ∙ imply-alone (outside S) Q (outside-closed S Q.siblings c.0, outside-closed S Q.parents c.1) t out b)
 ]
+
+-- ---- the pairs of a closed set
+
+-- chains depend on which pairs there are alone
+same-leads : (xs ys : List Pair) → HaveSame xs ys → (n a b : ℕ) → leads n xs a b ≡ leads n ys a b
+same-leads xs ys same zero a b = refl
+same-leads xs ys same (suc n) a b =
+    any-equal (λ p. (p.0 == a || leads n xs a p.0) && p.1 == b) (λ p. (p.0 == a || leads n ys a p.0) && p.1 == b)
+    (let rest = same-leads xs ys same n a in λ p. ap (λ (l : Bool). (p.0 == a || l) && p.1 == b) (rest p.0)) xs
+    ∙ same (λ p. (p.0 == a || leads n ys a p.0) && p.1 == b)
+  where
+    any-equal : (f g : Pair → Bool) → ((p : Pair) → f p ≡ g p) → (pairs : List Pair) → list_any f pairs ≡ list_any g pairs
+    any-equal f g e [] = refl
+    any-equal f g e (p ∷ pairs) = rw (e p, any-equal f g e pairs) refl
+
+pub same-above : (xs ys : List Pair) → HaveSame xs ys → (a b : ℕ) → is_above xs a b ≡ is_above ys a b
+same-above xs ys same a b =
+    equal-tests (is_above xs a b) (is_above ys a b)
+    (λ e. chains-short ys (length xs) a b (sym (same-leads xs ys same (length xs) a b) ∙ e))
+    (λ e. chains-short xs (length ys) a b (same-leads xs ys same (length ys) a b ∙ e))
+
+-- the pairs of a closed set alone, between ideal tags, say what its tags imply
+pub within-imply : (S : ℕ → Bool) (R : Relations) (pairs : List Pair) → IsClosedFor S R → HaveSame pairs (steps_within S R) → (t : ℕ) → S t ≡ true → (b : ℕ)
+    → (b == ideal_of R t || is_above pairs (ideal_of R t) b) ≡ implies R t b
+unfolding implies
+within-imply S R pairs c same t here b =
+    let J : ℕ → ℕ = ideal_of R in
+    let split : (u : ℕ) → S (J u) ≡ S u = split-by S R.sibling_order R.siblings c.0 in
+    let all : List Pair = pairs_in R.parent_order R.parents in
+    let closed : Closed S all = in-closed S R.parent_order R.parents (recursion_from_All (λ row. S row.first.0 ≡ S row.second.0) R.parents c.1) in
+    let steps : steps_within S R ≡ within S (steps_of R) =
+    ap (map (between_ideals J)) (sym (in-within S R.parent_order R.parents)) ∙ map-within S J J split (λ u s. refl) all closed in
+    ap (λ x. b == J t || x) (same-above pairs (steps_within S R) same (J t) b)
+    ∙ ap (λ l. b == J t || is_above l (J t) b) steps
+    ∙ ap (λ x. b == J t || x) (above-within S (steps_of R) (J t) (map-closed S J J split (λ u s. refl) all closed) (split t ∙ here) b)

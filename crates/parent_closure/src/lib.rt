@@ -9,10 +9,12 @@
 #![tactic(auto)]
 
 mod ancestors;
+mod cluster;
 mod parent_plan;
 mod parents;
 mod search;
 
 pub use ancestors::TagList;
+pub use cluster::implied_by;
 pub use parent_plan::ParentPlan;
 pub use parents::Parents;
