@@ -2,3 +2,4 @@ pub mod Places
 pub mod Searching
 pub mod Steps
 pub mod Gathering
+pub mod Firsts

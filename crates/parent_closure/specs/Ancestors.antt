@@ -1,7 +1,8 @@
 -- What a tag implies: its ideal tag, and all that parent pairs lead to from there.
-use Rattle.std.specs.Prelude.{ℕ, zero, suc, Bool, false, not, ◌==◌, ◌&&◌, ◌||◌, List, map, filter, length}
+use Rattle.std.specs.Prelude.{ℕ, zero, suc, Bool, false, not, ◌==◌, ◌&&◌, ◌||◌, nat_lt, List, map, filter, length}
 use Rattle.std.specs.List.{list_any, range_with_len}
 use Rattle.sibling_chains.specs.Following.{Pair}
+use Rattle.tag_types.specs.declared.limits.TheConstants.{MAX_IMPLIED}
 use Rattle.media_types.specs.declared.numbers.ServiceNo.{ServiceNo}
 use Rattle.sibling_chains.specs.declared.relation_row.RelationRow.{RelationRow}
 use Rattle.sibling_chains.specs.Recorded.{ideal, pairs_in}
@@ -43,3 +44,7 @@ implies R t b = b == ideal_of R t || is_above (steps_of R) (ideal_of R t) b
 -- what a tag implies of n tags, ascending
 abbrev pub implied : ℕ → Relations → ℕ → List ℕ
 implied n R t = filter (implies R t) (range_with_len 0 n)
+
+-- the tag implies more of n tags than a tag may
+abbrev pub is_over : ℕ → Relations → ℕ → Bool
+is_over n R t = nat_lt MAX_IMPLIED (length (implied n R t))

@@ -1,8 +1,8 @@
 -- What is above a tag, and sets of tags that are closed under the rows.
 use Rattle.std.proofs.Common.{◌≡◌, ◌∙◌, ℕ, zero, suc, ◌≤◌, ◌==◌, ◌&&◌, ◌||◌, not, Bool, true, false, cond, List, [], ◌∷◌, length, map, filter, refl, sym, ap, inl, inr, arith, All}
-use Rattle.std.specs.List.{AllByRecursion, list_any}
+use Rattle.std.specs.List.{AllByRecursion, list_any, range_with_len}
 use Rattle.std.proofs.lemmas.Bool.{false≢true, cases_Bool, eqb-true, ne_eqb, and_parts, or_cases, or_left, or_right}
-use Rattle.std.proofs.lemmas.List.Elements.{recursion_from_All}
+use Rattle.std.proofs.lemmas.List.Elements.{filter_agree, recursion_from_All}
 use Rattle.std.proofs.lemmas.List.Sums.{length-filter, count_by-le-length}
 use Rattle.sibling_chains.specs.Following.{Pair}
 use Rattle.media_types.specs.declared.numbers.ServiceNo.{ServiceNo}
@@ -10,7 +10,7 @@ use Rattle.sibling_chains.specs.declared.relation_row.RelationRow.{RelationRow}
 use Rattle.sibling_chains.specs.Recorded.{ideal, pairs_in}
 use Rattle.sibling_chains.specs.Clusters.{IsClosed, outside}
 use Rattle.sibling_chains.specs.ClusterLaws.{alone, in-closed, in-within, outside-closed}
-use Rattle.parent_closure.specs.Ancestors.{Relations, between_ideals, ideal_of, implies, is_above, leads, steps_of}
+use Rattle.parent_closure.specs.Ancestors.{Relations, between_ideals, ideal_of, implied, implies, is_above, leads, steps_of}
 use Rattle.parent_closure.specs.Sets.{HaveSame, IsClosedFor, of_set, steps_within}
 use Rattle.parent_closure.specs.ChainLaws.{any-within, chains-short, enough}
 
@@ -180,3 +180,9 @@ within-imply S R pairs c same t here b =
     ap (λ x. b == J t || x) (same-above pairs (steps_within S R) same (J t) b)
     ∙ ap (λ l. b == J t || is_above l (J t) b) steps
     ∙ ap (λ x. b == J t || x) (above-within S (steps_of R) (J t) (map-closed S J J split (λ u s. refl) all closed) (split t ∙ here) b)
+
+-- and they say it of all n tags
+pub within-implied : (S : ℕ → Bool) (R : Relations) (pairs : List Pair) → IsClosedFor S R → HaveSame pairs (steps_within S R) → (n t : ℕ) → S t ≡ true
+    → filter (λ b. b == ideal_of R t || is_above pairs (ideal_of R t) b) (range_with_len 0 n) ≡ implied n R t
+within-implied S R pairs c same n t here =
+    filter_agree (λ b. b == ideal_of R t || is_above pairs (ideal_of R t) b) (implies R t) (within-imply S R pairs c same t here) (range_with_len 0 n)

@@ -10,6 +10,7 @@
 
 mod ancestors;
 mod cluster;
+mod limit;
 mod parent_plan;
 mod parents;
 mod search;
