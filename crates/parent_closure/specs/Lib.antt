@@ -1,5 +1,6 @@
 pub mod Ancestors
 pub mod ChainLaws
+pub mod CountLaws
 pub mod Implied
 pub mod Kept
 pub mod Planning

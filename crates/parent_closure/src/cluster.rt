@@ -11,6 +11,7 @@ ghost use Rattle.parent_closure.specs.Ancestors.{is_above};
 ghost use Rattle.parent_closure.specs.Implied.{added_by, chained, gone_by, planned, relations_of};
 ghost use Rattle.parent_closure.specs.Kept.{rows_of, rows_with};
 ghost use Rattle.parent_closure.specs.Planning.{IsPlanFor};
+ghost use Rattle.parent_closure.specs.CountLaws.{AreDifferent};
 ghost use Rattle.parent_closure.specs.Reached.{has};
 ghost use Rattle.parent_closure.specs.Sets.{HaveSame, steps_within};
 
@@ -39,10 +40,11 @@ impl Parents {
         requires chains { ForSome chains (λ p. IsSiblingPlanFor p.now siblings.now) }
         requires service { service.0 < length self.now.orders }
         requires siblings { service.0 < length siblings.now.orders }
+        requires different { AreDifferent tags.now }
         ensures pairs { IfOk result (λ v. HaveSame v.items (steps_within (has tags.now)
             (relations_of (planned (option_map (λ p. p.now) plan.entry) self.now)
             (chained (option_map (λ p. p.now) chains.entry) siblings.now) service.0))) }
-        ensures reads { steps.new ≤ steps.old + (length tags.now + 2 * length (flat_map (rows_of self.now.rows) tags.now)) }
+        ensures reads { steps.new ≤ steps.old + (length tags.now + 2 * length (rows_within (has tags.now) self.now.rows)) }
     {
         let rows = self.rows_among(plan, tags, steps)?;
         let order = self.order_after(plan, service);

@@ -1,12 +1,12 @@
 //! Whether a tag would imply too many.
 
 ghost use Rattle.std.specs.Prelude.{◌≡◌, ℕ, ◌+◌, ◌*◌, ◌<◌, ◌≤◌, IfOk, find, length};
-ghost use Rattle.std.specs.List.{flat_map};
 ghost use Rattle.std.specs.Option.{ForSome, option_map};
+ghost use Rattle.sibling_chains.specs.Clusters.{rows_within};
 ghost use Rattle.sibling_chains.specs.Planning.{IsPlanFor as IsSiblingPlanFor};
 ghost use Rattle.parent_closure.specs.Ancestors.{is_over};
 ghost use Rattle.parent_closure.specs.Implied.{chained, planned, relations_of};
-ghost use Rattle.parent_closure.specs.Kept.{rows_of};
+ghost use Rattle.parent_closure.specs.CountLaws.{AreDifferent};
 ghost use Rattle.parent_closure.specs.Planning.{IsPlanFor};
 ghost use Rattle.parent_closure.specs.Reached.{has};
 ghost use Rattle.parent_closure.specs.Sets.{IsClosedFor};
@@ -36,12 +36,13 @@ impl Parents {
         requires chains { ForSome chains (λ p. IsSiblingPlanFor p.now siblings.now) }
         requires service { service.0 < length self.now.orders }
         requires siblings { service.0 < length siblings.now.orders }
+        requires different { AreDifferent tags.now }
         requires closed { IsClosedFor (has tags.now) (relations_of (planned (option_map (λ p. p.now) plan) self.now)
             (chained (option_map (λ p. p.now) chains) siblings.now) service.0) }
         ensures first { IfOk result (λ found. option_map (λ t. t.0) found ≡ find (is_over self.now.tags
             (relations_of (planned (option_map (λ p. p.now) plan.entry) self.now)
             (chained (option_map (λ p. p.now) chains.entry) siblings.now) service.0)) tags.now) }
-        ensures reads { steps.new ≤ steps.old + (length tags.now + 2 * length (flat_map (rows_of self.now.rows) tags.now)) }
+        ensures reads { steps.new ≤ steps.old + (length tags.now + 2 * length (rows_within (has tags.now) self.now.rows)) }
     {
         let pairs = self.pairs_among(plan, siblings, chains, service, tags, steps)?;
         let end = self.tags();

@@ -11,6 +11,7 @@ use Rattle.sibling_chains.specs.Recorded.{pairs_in}
 use Rattle.parent_closure.specs.declared.parent_plan.ParentPlan.{ParentPlan}
 use Rattle.parent_closure.specs.Ancestors.{between_ideals}
 use Rattle.parent_closure.specs.Implied.{chained, planned, steps_by}
+use Rattle.parent_closure.specs.CountLaws.{cluster-rows}
 use Rattle.parent_closure.specs.Kept.{Kept}
 use Rattle.parent_closure.specs.Reached.{has}
 use Rattle.parent_closure.proofs.Gathering.{between-same}
@@ -32,3 +33,18 @@ returns-clause-pairs g c = λ test.
     ∙ steps-all w s rows items
     ∙ ap (λ (o : List ServiceNo). map (between_ideals (ideal_in w s)) (pairs_in o rows)) order in
     ap (list_any test) steps ∙ between-same (ideal_in w s) rows (rows_within (has tags) v.rows) c.in_ok-rows.ensures.rows (get_or v.orders s []) test
+
+pub returns-in_err-rows-clause-reads : goal.returns-in_err-rows-clause-reads
+returns-in_err-rows-clause-reads g c =
+    let rows = cluster-rows c.args.self.now.rows c.args.tags.now c.requires.different in
+    omega (arith, rows, c.rows_among.ensures.reads)
+
+pub returns-in_err-put_steps-clause-reads : goal.returns-in_err-put_steps-clause-reads
+returns-in_err-put_steps-clause-reads g c =
+    let rows = cluster-rows c.args.self.now.rows c.args.tags.now c.requires.different in
+    omega (arith, rows, c.rows_among.ensures.reads)
+
+pub returns-clause-reads : goal.returns-clause-reads
+returns-clause-reads g c =
+    let rows = cluster-rows c.args.self.now.rows c.args.tags.now c.requires.different in
+    omega (arith, rows, c.rows_among.ensures.reads)
