@@ -16,3 +16,6 @@ mod search;
 pub use ancestors::TagList;
 pub use parent_plan::ParentPlan;
 pub use parents::Parents;
+
+#[cfg(test)]
+mod tests;
