@@ -19,3 +19,6 @@ pub use ancestors::TagList;
 pub use cluster::implied_by;
 pub use parent_plan::ParentPlan;
 pub use parents::Parents;
+
+#[cfg(test)]
+mod tests;

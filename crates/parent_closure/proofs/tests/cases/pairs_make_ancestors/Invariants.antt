@@ -1,0 +1,4 @@
+use Rattle.parent_closure.proofs.tests.cases.pairs_make_ancestors.Given as goal
+
+abbrev pub ghosts-assert_row : goal.ghosts-assert_row
+ghosts-assert_row g a = record { name = a.blank.name; parts = a.blank.parts }
