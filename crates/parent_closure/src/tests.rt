@@ -3,6 +3,7 @@ ghost use Rattle.sibling_chains.specs.Planning.{IsPlanFor as IsSiblingPlanFor};
 ghost use Rattle.parent_closure.specs.Planning.{IsPlanFor};
 
 mod cases;
+mod cluster;
 mod every_set;
 mod plans;
 mod rows;
