@@ -35,12 +35,14 @@ pub data CommandName : Type 0 where
   Mappings : CommandName
   AddSibling : CommandName
   RemoveSibling : CommandName
+  AddParent : CommandName
+  RemoveParent : CommandName
   Ideal : CommandName
 
 -- the commands, in the order in which their names are tried, some ten in a list
 unfoldable pub tag_names : List CommandName
 tag_names =
-    CommandName.AddService ∷ CommandName.Apply ∷ CommandName.Map ∷ CommandName.Unmap ∷ CommandName.Mappings ∷ CommandName.AddSibling ∷ CommandName.RemoveSibling ∷ CommandName.Ideal
+    CommandName.AddService ∷ CommandName.Apply ∷ CommandName.Map ∷ CommandName.Unmap ∷ CommandName.Mappings ∷ CommandName.AddSibling ∷ CommandName.RemoveSibling ∷ CommandName.AddParent ∷ CommandName.RemoveParent ∷ CommandName.Ideal
     ∷ []
 
 unfoldable pub search_names : List CommandName
@@ -150,6 +152,22 @@ request_of CommandName.RemoveSibling = record {
     bad ← is_tag bad_text
     good ← is_tag good_text
     asks (commands.Do (changes.SiblingRemoved (record { service = service; first = bad; second = good })));
+}
+request_of CommandName.AddParent = record {
+  text = codes "add_parent";
+  fields = (fields.Service, a_service) ∷ (fields.Child, a_text) ∷ (fields.Parent, a_text) ∷ [];
+  asked = λ service child_text parent_text. do
+    child ← is_tag child_text
+    parent ← is_tag parent_text
+    asks (commands.Do (changes.ParentAdded (record { service = service; first = child; second = parent })));
+}
+request_of CommandName.RemoveParent = record {
+  text = codes "remove_parent";
+  fields = (fields.Service, a_service) ∷ (fields.Child, a_text) ∷ (fields.Parent, a_text) ∷ [];
+  asked = λ service child_text parent_text. do
+    child ← is_tag child_text
+    parent ← is_tag parent_text
+    asks (commands.Do (changes.ParentRemoved (record { service = service; first = child; second = parent })));
 }
 request_of CommandName.Ideal = record {
   text = codes "ideal";

@@ -28,8 +28,8 @@ pub const MAX_LINE: usize = 65_536;
 ///   `hashes` may be missing, and so may `after_j` and `after_k`, but not one of the two alone.
 /// - `BadHash`: the `sha256` of an import isn't 64 hexadecimal digits, or one of its `hashes` isn't 16.
 /// - `TooManyHashes`: an import has more than `MAX_HASHES` of them.
-/// - `BadTag`: a `tag`, `bad` or `good`, once it is cleaned, is empty or has more than `MAX_TAG_BYTES`
-///   bytes.
+/// - `BadTag`: a `tag`, `bad`, `good`, `child` or `parent`, once it is cleaned, is empty or has more than
+///   `MAX_TAG_BYTES` bytes.
 /// - `BadDistance`: a `distance` or `at_most` is over `MAX_DISTANCE`.
 /// - `BadNumber`: an `n` is 0 or over `MAX_BATCH`, or `files` are none or more than so many.
 ///

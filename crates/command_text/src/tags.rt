@@ -26,6 +26,8 @@ pub fn tag_command(alloc: Global, name: &str, request: &Value) -> Result<Command
         "mappings" => mappings_of(request),
         "add_sibling" => add_sibling_of(alloc, request),
         "remove_sibling" => remove_sibling_of(alloc, request),
+        "add_parent" => add_parent_of(alloc, request),
+        "remove_parent" => remove_parent_of(alloc, request),
         "ideal" => ideal_of(alloc, request),
         _ => Err(Refusal::NotARequest(FieldName::Do)),
     }
@@ -104,6 +106,36 @@ fn remove_sibling_of(alloc: Global, request: &Value) -> Result<Command, Refusal>
     let first = tag_of(alloc, bad)?;
     let second = tag_of(alloc, good)?;
     Ok(Command::Do(Change::SiblingRemoved(TagPair {
+        service,
+        first,
+        second,
+    })))
+}
+
+fn add_parent_of(alloc: Global, request: &Value) -> Result<Command, Refusal>
+    ensures { Gives result (read_request (request_of CommandName.AddParent) (view request.now)) }
+{
+    let service = service(request, FieldName::Service)?;
+    let child = text(request, FieldName::Child)?;
+    let parent = text(request, FieldName::Parent)?;
+    let first = tag_of(alloc, child)?;
+    let second = tag_of(alloc, parent)?;
+    Ok(Command::Do(Change::ParentAdded(TagPair {
+        service,
+        first,
+        second,
+    })))
+}
+
+fn remove_parent_of(alloc: Global, request: &Value) -> Result<Command, Refusal>
+    ensures { Gives result (read_request (request_of CommandName.RemoveParent) (view request.now)) }
+{
+    let service = service(request, FieldName::Service)?;
+    let child = text(request, FieldName::Child)?;
+    let parent = text(request, FieldName::Parent)?;
+    let first = tag_of(alloc, child)?;
+    let second = tag_of(alloc, parent)?;
+    Ok(Command::Do(Change::ParentRemoved(TagPair {
         service,
         first,
         second,

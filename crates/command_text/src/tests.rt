@@ -89,6 +89,7 @@ fn faulty_lines_are_refused(rt: HostRuntime) {
         ("{\"do\":\"deleted\",\"file\":1}", FieldName::Do),
         ("{\"do\":\"Undelete\",\"file\":1}", FieldName::Do),
         ("{\"do\":\"sibling\",\"service\":0}", FieldName::Do),
+        ("{\"do\":\"parent\",\"service\":0}", FieldName::Do),
         ("{\"do\":\"Ideal\",\"service\":0}", FieldName::Do),
     ];
     for (line, field) in cases {

@@ -31,8 +31,8 @@ pub use media_types::{
 };
 pub use refusal::{FieldName, Refusal, Unmet};
 pub use reply::{
-    Answer, FileMappings, IdealTag, ImportStatus, Imported, Mapped, QueueLengths, Reply,
-    SearchCounts, SiblingTags, TagTextList,
+    Answer, FileMappings, IdealTag, ImportStatus, Imported, Mapped, PairTags, QueueLengths, Reply,
+    SearchCounts, TagTextList,
 };
 pub use sink::{Sink, write_all};
 pub use source::Source;

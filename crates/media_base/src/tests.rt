@@ -100,6 +100,8 @@ fn names(rt: HostRuntime) {
         (FieldName::State, "state"),
         (FieldName::Bad, "bad"),
         (FieldName::Good, "good"),
+        (FieldName::Child, "child"),
+        (FieldName::Parent, "parent"),
     ];
     for (field, text) in fields {
         assert_eq!(rt; field.text(), text);

@@ -150,9 +150,10 @@ fn one_change_fills_a_keeper_of_one(rt: HostRuntime) -> Result<(), Fail> {
     let fails = calls(alloc, &[3, 4])?;
     let mut keeper = MemoryKeeper::new(alloc, ChangeList::new(alloc), fails, 1);
     assert_eq!(rt; keeper.start()?, 0);
-    assert_eq!(rt; keeper.put(&undo(6)), Ok(()));
-    assert_eq!(rt; keeper.put(&undo(7)), Err(PutFault::Full));
-    assert_eq!(rt; keeper.put(&undo(8)), Err(PutFault::Full));
+    let (first, second, third) = (undo(6), undo(7), undo(8));
+    assert_eq!(rt; keeper.put(&first), Ok(()));
+    assert_eq!(rt; keeper.put(&second), Err(PutFault::Full));
+    assert_eq!(rt; keeper.put(&third), Err(PutFault::Full));
     assert_undos(&rt, keeper.changes(), &[6]);
     assert_eq!(rt; keeper.start(), Ok(1));
     Ok(())

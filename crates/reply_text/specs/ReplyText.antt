@@ -29,13 +29,15 @@ answer_row answers.Rebalanced = (codes "done", a_flag true) ∷ []
 answer_row (answers.Service service) = (codes "service", a_number service.0) ∷ []
 answer_row (answers.Mapped mapped) = (codes "tag", a_number mapped.tag.0) ∷ (codes "changed", a_flag mapped.changed) ∷ []
 answer_row (answers.Mappings found) = (codes "current", tags found.current) ∷ (codes "pending", tags found.pending) ∷ (codes "deleted", tags found.deleted) ∷ []
-answer_row (answers.Sibling pair) = (codes "bad", a_number pair.bad.0) ∷ (codes "good", a_number pair.good.0) ∷ []
+answer_row (answers.Sibling pair) = (codes "bad", a_number pair.first.0) ∷ (codes "good", a_number pair.second.0) ∷ []
+answer_row (answers.Parent pair) = (codes "child", a_number pair.first.0) ∷ (codes "parent", a_number pair.second.0) ∷ []
 answer_row (answers.Ideal found) = (codes "ideal", a_text found.ideal) ∷ (codes "ancestors", tags found.ancestors) ∷ []
 
--- what a refusal tells beside its name: the field that it blames, or the good tag that is known
+-- what a refusal tells beside its name: the field that it blames, the good tag or the parent that is known, or the service and the tag that would imply too many
 abbrev pub details : Refusal → List Field
 details (refusals.NotARequest field) = (codes "field", a_text (names.field_text field)) ∷ []
 details (refusals.Unmet (whys.PairKnown good)) = (codes "good", a_text good) ∷ []
+details (refusals.Unmet (whys.TooManyImplied service tag)) = (codes "service", a_number service.0) ∷ (codes "tag", a_text tag) ∷ []
 details refusal = []
 
 abbrev pub reply_row : Reply → List Field

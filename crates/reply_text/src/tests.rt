@@ -3,9 +3,9 @@ use crate::part::{Field, Part, put_object};
 use crate::{put_reply_line, reply_len, write_reply};
 use media_base::{
     Answer, BytesSink, CallList, Code, Decision, DecisionNo, FieldName, FileList, FileMappings,
-    FileNo, FileRelations, Gather, IdealTag, ImportStatus, Imported, Mapped, PairList,
-    QueueLengths, Refusal, Reply, SearchCounts, SearchDistance, ServiceNo, SiblingTags, TagNo,
-    TagTextList, Unmet, clean,
+    FileNo, FileRelations, Gather, IdealTag, ImportStatus, Imported, Mapped, PairList, PairTags,
+    QueueLengths, Refusal, Reply, SearchCounts, SearchDistance, ServiceNo, TagNo, TagTextList,
+    Unmet, clean,
 };
 use std::alloc::Global;
 use std::process::Abort;
@@ -384,17 +384,21 @@ fn tags_are_answered(rt: HostRuntime) -> Result<(), Fail> {
         let tag = TagNo(tag);
         Ok(Answer::Mapped(Mapped { tag, changed }))
     };
-    let pair = |bad, good| {
-        let (bad, good) = (TagNo(bad), TagNo(good));
-        Ok(Answer::Sibling(SiblingTags { bad, good }))
+    let tags = |first, second| PairTags {
+        first: TagNo(first),
+        second: TagNo(second),
     };
+    let sibling = |bad, good| Ok(Answer::Sibling(tags(bad, good)));
+    let parent = |child, parent| Ok(Answer::Parent(tags(child, parent)));
     let cases = [
         (Ok(Answer::Service(ServiceNo(0))), "{\"service\":0}"),
         (Ok(Answer::Service(ServiceNo(255))), "{\"service\":255}"),
         (mapped(0, true), "{\"tag\":0,\"changed\":true}"),
         (mapped(999_999, false), "{\"tag\":999999,\"changed\":false}"),
-        (pair(0, 1), "{\"bad\":0,\"good\":1}"),
-        (pair(999_999, 12), "{\"bad\":999999,\"good\":12}"),
+        (sibling(0, 1), "{\"bad\":0,\"good\":1}"),
+        (sibling(999_999, 12), "{\"bad\":999999,\"good\":12}"),
+        (parent(0, 1), "{\"child\":0,\"parent\":1}"),
+        (parent(7, 999_999), "{\"child\":7,\"parent\":999999}"),
     ];
     assert_texts(&rt, rt.alloc(), &cases)
 }
@@ -440,6 +444,31 @@ fn known_pairs_are_told(rt: HostRuntime) -> Result<(), Fail> {
     assert_known_pair(&rt, rt.alloc(), "b", plain)?;
     let escaped = "{\"error\":\"pair_known\",\"good\":\"creator:\\\"e\\\"\"}";
     assert_known_pair(&rt, rt.alloc(), "creator:\"e\"", escaped)
+}
+
+fn assert_too_many_implied(
+    rt: &impl Abort,
+    alloc: Global,
+    service: ServiceNo,
+    tag: &str,
+    want: &str,
+) -> Result<(), Fail> {
+    let tag = clean(alloc, tag)?;
+    assert_text(
+        rt,
+        alloc,
+        &Err(Refusal::Unmet(Unmet::TooManyImplied { service, tag })),
+        want,
+    )
+}
+
+#[test]
+fn too_many_implied_tags_are_told(rt: HostRuntime) -> Result<(), Fail> {
+    let alloc = rt.alloc();
+    let plain = "{\"error\":\"too_many_implied\",\"service\":1,\"tag\":\"a b\"}";
+    assert_too_many_implied(&rt, alloc, ServiceNo(1), "a b", plain)?;
+    let escaped = "{\"error\":\"too_many_implied\",\"service\":255,\"tag\":\"e\\\"\"}";
+    assert_too_many_implied(&rt, alloc, ServiceNo(255), "e\"", escaped)
 }
 
 // The texts in quotes are those that Python's json writes.

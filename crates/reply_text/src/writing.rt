@@ -99,8 +99,12 @@ fn put_reply<W, O: Out<W>>(reply: &Reply, out: &mut O, sink: &mut W) -> Result<(
             ("deleted", Part::Tags(found.deleted.as_slice())),
         ]),
         Ok(Answer::Sibling(pair)) => put(&[
-            ("bad", Part::Number(u64::from(pair.bad.0))),
-            ("good", Part::Number(u64::from(pair.good.0))),
+            ("bad", Part::Number(u64::from(pair.first.0))),
+            ("good", Part::Number(u64::from(pair.second.0))),
+        ]),
+        Ok(Answer::Parent(pair)) => put(&[
+            ("child", Part::Number(u64::from(pair.first.0))),
+            ("parent", Part::Number(u64::from(pair.second.0))),
         ]),
         Ok(Answer::Ideal(found)) => put(&[
             ("ideal", Part::Text(found.ideal.as_str())),
@@ -122,6 +126,15 @@ fn put_refusal<W, O: Out<W>>(refusal: &Refusal, out: &mut O, sink: &mut W) -> Re
         Refusal::Unmet(Unmet::PairKnown(good)) => {
             put_object(&[error, ("good", Part::Text(good.as_str()))], out, sink)
         }
+        Refusal::Unmet(Unmet::TooManyImplied { service, tag }) => put_object(
+            &[
+                error,
+                ("service", Part::Number(u64::from(service.0))),
+                ("tag", Part::Text(tag.as_str())),
+            ],
+            out,
+            sink,
+        ),
         _ => put_object(&[error], out, sink),
     }
 }

@@ -14,15 +14,21 @@ const ADD_SIBLING: &str = r#"{"do":"add_sibling","service":1"#;
 
 const REMOVE_SIBLING: &str = r#"{"service":1,"tag":0,"do":"remove_sibling""#;
 
+const ADD_PARENT: &str = r#"{"bad":"a","do":"add_parent","service":1"#;
+
+const REMOVE_PARENT: &str = r#"{"do":"remove_parent","good":null,"service":1"#;
+
 const IDEAL: &str = r#"{"do":"ideal","file":null,"service":1"#;
 
-const SERVICE_COMMANDS: [&str; 7] = [
+const SERVICE_COMMANDS: [&str; 9] = [
     "apply",
     "map",
     "unmap",
     "mappings",
     "add_sibling",
     "remove_sibling",
+    "add_parent",
+    "remove_parent",
     "ideal",
 ];
 
@@ -177,6 +183,28 @@ fn faulty_siblings_are_refused(rt: HostRuntime) -> Result<(), Fail> {
 }
 
 #[test]
+fn faulty_parents_are_refused(rt: HostRuntime) -> Result<(), Fail> {
+    let cases = [
+        ("\"parent\":\"b\"", FieldName::Child),
+        ("\"child\":null,\"parent\":\"b\"", FieldName::Child),
+        ("\"child\":1,\"parent\":2", FieldName::Child),
+        ("\"child\":[\"a\"],\"parent\":\"\"", FieldName::Child),
+        ("\"Child\":\"a\",\"parent\":null", FieldName::Child),
+        ("\"bad\":\"a\",\"good\":\"b\"", FieldName::Child),
+        ("\"child\":\"a\"", FieldName::Parent),
+        ("\"child\":\"a\",\"good\":\"b\"", FieldName::Parent),
+        ("\"child\":\"\",\"parent\":null", FieldName::Parent),
+        ("\"child\":\"a\",\"parent\":2", FieldName::Parent),
+        ("\"child\":\"a\",\"parent\":[\"b\"]", FieldName::Parent),
+        ("\"child\":\" \",\"Parent\":\"b\"", FieldName::Parent),
+        ("\"child\":\"a\",\"parents\":\"b\"", FieldName::Parent),
+        ("\"child\":1,\"service\":256", FieldName::Service),
+    ];
+    assert_all_faulty(&rt, rt.alloc(), ADD_PARENT, &cases)?;
+    assert_all_faulty(&rt, rt.alloc(), REMOVE_PARENT, &cases)
+}
+
+#[test]
 fn faulty_questions_for_an_ideal_tag_are_refused(rt: HostRuntime) -> Result<(), Fail> {
     let cases = [
         ("\"Tag\":\"a\"", FieldName::Tag),
@@ -238,9 +266,21 @@ fn bad_tags_of_siblings_are_refused(rt: HostRuntime) -> Result<(), Fail> {
     assert_all_refused(&rt, rt.alloc(), REMOVE_SIBLING, &cases)
 }
 
-// A line that maps a tag of so many letters.
-fn with_letters(alloc: Global, count: usize) -> Result<String, Fail> {
-    let mut line = format!(in alloc; "{MAP},\"tag\":\"")?;
+#[test]
+fn bad_tags_of_parents_are_refused(rt: HostRuntime) -> Result<(), Fail> {
+    let bad_tag = &Refusal::BadTag;
+    let cases = [
+        ("\"child\":\"\",\"parent\":\"b\"", bad_tag),
+        ("\"child\":\"a\",\"parent\":\" \"", bad_tag),
+        ("\"child\":\"\\t\",\"parent\":\"\"", bad_tag),
+    ];
+    assert_all_refused(&rt, rt.alloc(), ADD_PARENT, &cases)?;
+    assert_all_refused(&rt, rt.alloc(), REMOVE_PARENT, &cases)
+}
+
+// A line that begins so, and whose last text has so many letters.
+fn with_letters(alloc: Global, front: &str, count: usize) -> Result<String, Fail> {
+    let mut line = format!(in alloc; "{front}\":\"")?;
     for _ in 0..count {
         line.push('Q')?;
     }
@@ -257,12 +297,33 @@ fn mapping_of(rt: &impl Abort, alloc: Global, line: &str) -> Result<Mapping, Fai
 
 #[test]
 fn a_tag_has_a_limit(rt: HostRuntime) -> Result<(), Fail> {
-    let longest = with_letters(rt.alloc(), 1_024)?;
+    let front = format!(in rt.alloc(); "{MAP},\"tag")?;
+    let longest = with_letters(rt.alloc(), &front, 1_024)?;
     let mapping = mapping_of(&rt, rt.alloc(), &longest)?;
     assert_eq!(rt; mapping.tag.as_bytes().len(), 1_024);
     assert!(rt; mapping.tag.as_bytes().iter().all(|byte| *byte == b'q'));
-    let longer = with_letters(rt.alloc(), 1_025)?;
-    assert_refused(&rt, rt.alloc(), longer.as_bytes(), &Refusal::BadTag);
+    assert_too_long(&rt, rt.alloc(), &front)
+}
+
+fn assert_too_long(rt: &impl Abort, alloc: Global, front: &str) -> Result<(), Fail> {
+    let longer = with_letters(alloc, front, 1_025)?;
+    assert_refused(rt, alloc, longer.as_bytes(), &Refusal::BadTag);
+    Ok(())
+}
+
+#[test]
+fn tags_of_parents_have_the_limit(rt: HostRuntime) -> Result<(), Fail> {
+    let fronts = [
+        "{\"do\":\"add_parent\",\"service\":1,\"parent\":\"b\",\"child",
+        "{\"do\":\"add_parent\",\"service\":1,\"child\":\"a\",\"parent",
+        "{\"do\":\"remove_parent\",\"service\":1,\"parent\":\"b\",\"child",
+        "{\"do\":\"remove_parent\",\"service\":1,\"child\":\"a\",\"parent",
+    ];
+    for front in fronts {
+        let longest = with_letters(rt.alloc(), front, 1_024)?;
+        read_pieces(rt.alloc(), &longest, "", "")?;
+        assert_too_long(&rt, rt.alloc(), front)?;
+    }
     Ok(())
 }
 
@@ -374,31 +435,75 @@ const SIBLINGS: [(&str, &str, &str); 5] = [
     ),
 ];
 
-fn added(rt: &impl Abort, alloc: Global, fields: &str) -> Result<TagPair, Fail> {
+fn sibling_added(rt: &impl Abort, alloc: Global, fields: &str) -> Result<TagPair, Fail> {
     match read_pieces(alloc, ADD_SIBLING, fields, "")? {
         Command::Do(Change::SiblingAdded(pair)) => Ok(pair),
         _ => panic!(rt; "no sibling: {fields}"),
     }
 }
 
-fn removed(rt: &impl Abort, alloc: Global, fields: &str) -> Result<TagPair, Fail> {
+fn sibling_removed(rt: &impl Abort, alloc: Global, fields: &str) -> Result<TagPair, Fail> {
     match read_pieces(alloc, REMOVE_SIBLING, fields, "")? {
         Command::Do(Change::SiblingRemoved(pair)) => Ok(pair),
         _ => panic!(rt; "no sibling: {fields}"),
     }
 }
 
-fn assert_pair(rt: &impl Abort, pair: &TagPair, bad: &str, good: &str) {
+fn assert_pair(rt: &impl Abort, pair: &TagPair, first: &str, second: &str) {
     assert_eq!(rt; pair.service, ServiceNo(1));
-    assert_eq!(rt; pair.first.as_str(), bad);
-    assert_eq!(rt; pair.second.as_str(), good);
+    assert_eq!(rt; pair.first.as_str(), first);
+    assert_eq!(rt; pair.second.as_str(), second);
 }
 
 #[test]
 fn siblings_are_read(rt: HostRuntime) -> Result<(), Fail> {
     for (fields, bad, good) in &SIBLINGS {
-        assert_pair(&rt, &added(&rt, rt.alloc(), fields)?, bad, good);
-        assert_pair(&rt, &removed(&rt, rt.alloc(), fields)?, bad, good);
+        assert_pair(&rt, &sibling_added(&rt, rt.alloc(), fields)?, bad, good);
+        assert_pair(&rt, &sibling_removed(&rt, rt.alloc(), fields)?, bad, good);
+    }
+    Ok(())
+}
+
+const PARENTS: [(&str, &str, &str); 5] = [
+    (",\"child\":\"a\",\"parent\":\"b\"}", "a", "b"),
+    (",\"parent\":\"a\",\"child\":\" B  c\"}", "b c", "a"),
+    (",\"child\":\"Q\",\"parent\":\"q \"}", "q", "q"),
+    (
+        ",\"child\":null,\"parent\":\"\\u00c9t\\u00E9\",\"child\":\"\\ud834\\udd1e\"}",
+        "𝄞",
+        "Été",
+    ),
+    (
+        ",\"child\":\"\\\"\",\"Child\":1,\"parent\":\"Creator:d\",\"parents\":-1}",
+        "\"",
+        "creator:d",
+    ),
+];
+
+fn parent_added(rt: &impl Abort, alloc: Global, fields: &str) -> Result<TagPair, Fail> {
+    match read_pieces(alloc, ADD_PARENT, fields, "")? {
+        Command::Do(Change::ParentAdded(pair)) => Ok(pair),
+        _ => panic!(rt; "no parent: {fields}"),
+    }
+}
+
+fn parent_removed(rt: &impl Abort, alloc: Global, fields: &str) -> Result<TagPair, Fail> {
+    match read_pieces(alloc, REMOVE_PARENT, fields, "")? {
+        Command::Do(Change::ParentRemoved(pair)) => Ok(pair),
+        _ => panic!(rt; "no parent: {fields}"),
+    }
+}
+
+#[test]
+fn parents_are_read(rt: HostRuntime) -> Result<(), Fail> {
+    for (fields, child, parent) in &PARENTS {
+        assert_pair(&rt, &parent_added(&rt, rt.alloc(), fields)?, child, parent);
+        assert_pair(
+            &rt,
+            &parent_removed(&rt, rt.alloc(), fields)?,
+            child,
+            parent,
+        );
     }
     Ok(())
 }
