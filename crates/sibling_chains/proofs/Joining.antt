@@ -1,11 +1,11 @@
 -- The labels of clusters that are kept, once tags are tied together.
-use Rattle.std.proofs.Common.{◌≡◌, ◌∙◌, ℕ, zero, suc, ◌<◌, ◌≤◌, ◌==◌, ◌&&◌, min, Bool, true, false, cond, List, [], ◌∷◌, ◌++◌, length, map, filter, get_or, All, refl, sym, ap, subst, inl, inr, arith}
+use Rattle.std.proofs.Common.{◌≡◌, ◌∙◌, ℕ, ◌<◌, ◌≤◌, ◌==◌, ◌&&◌, min, Bool, true, false, cond, List, [], ◌∷◌, ◌++◌, length, map, filter, get_or, All, refl, sym, ap, subst, inl, inr, arith}
 use Rattle.std.proofs.Math.Path.{fun_ext}
-use Rattle.std.specs.List.{AllByRecursion, list_any, range_with_len}
+use Rattle.std.specs.List.{list_any, range_with_len}
 use Rattle.std.proofs.lemmas.Bool.{cases_Bool, cases_lt, eq-eqb, le-ltb, lt-ltb}
 use Rattle.std.proofs.lemmas.Bool.Decides.{nat_tests}
 use Rattle.std.proofs.lemmas.List.{append-nil, append_assoc, get_or-map, get_or_default, get_or_past, length-map, length_push, map-append, same_lists}
-use Rattle.std.proofs.lemmas.List.Elements.{All-from_recursion, All-push, All-weaker, recursion_from_All}
+use Rattle.std.proofs.lemmas.List.Elements.{All-push, All-weaker}
 use Rattle.tag_types.specs.declared.limits.TheConstants.{MAX_TAGS}
 use Rattle.sibling_chains.specs.declared.relation_row.RelationRow.{RelationRow}
 use Rattle.sibling_chains.specs.Clustered.{AreClustered, all_pairs, is_of_two, label_of}
@@ -14,6 +14,7 @@ use Rattle.sibling_chains.specs.Ends.{at}
 use Rattle.sibling_chains.specs.Following.{Pair}
 use Rattle.sibling_chains.specs.Grouping.{is_either}
 use Rattle.sibling_chains.specs.LabelLaws.{labels-least, one-tie}
+use Rattle.sibling_chains.specs.RowLaws.{All-removed, map-removed}
 use Rattle.sibling_chains.specs.Recorded.{no_row, pair_of, removed, removed_at}
 use Rattle.sibling_chains.specs.NumberLaws.{any-passed}
 use Rattle.sibling_chains.proofs.GroupLists.{at-own}
@@ -168,19 +169,6 @@ clustered-tag rows ties of_tags of_rows h few =
           (λ row both. (omega (arith, len, both.0), omega (arith, len, both.1))) rows h.known;
       few = omega (arith, len, few);
     }
-
-pub map-removed : {X : Type 0} (f : RelationRow → X) → ((row : RelationRow) → f (removed row) ≡ f row) → (n : ℕ) (rows : List RelationRow) → map f (removed_at n rows) ≡ map f rows
-map-removed f same n [] = refl
-map-removed f same zero (row ∷ rows) = ap (λ x. x ∷ map f rows) (same row)
-map-removed f same (suc n) (row ∷ rows) = ap (λ l. f row ∷ l) (map-removed f same n rows)
-
-all-removed : (P : RelationRow → Type 0) → ((row : RelationRow) → P row → P (removed row)) → (n : ℕ) (rows : List RelationRow) → AllByRecursion P rows → AllByRecursion P (removed_at n rows)
-all-removed P keep n [] a = tt
-all-removed P keep zero (row ∷ rows) a = (keep row a.0, a.1)
-all-removed P keep (suc n) (row ∷ rows) a = (a.0, all-removed P keep n rows a.1)
-
-pub All-removed : (P : RelationRow → Type 0) → ((row : RelationRow) → P row → P (removed row)) → (n : ℕ) (rows : List RelationRow) → All P rows → All P (removed_at n rows)
-All-removed P keep n rows a = All-from_recursion P (removed_at n rows) (all-removed P keep n rows (recursion_from_All P rows a))
 
 pub clustered-removal : (rows : List RelationRow) (ties : List Pair) (of_tags of_rows : List ℕ) (n : ℕ) → AreClustered rows ties of_tags of_rows
     → AreClustered (removed_at n rows) ties of_tags of_rows

@@ -1,3 +1,4 @@
+pub mod ChangeLaws
 pub mod ClusterLaws
 pub mod Clustered
 pub mod Clusters

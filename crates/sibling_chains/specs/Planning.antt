@@ -1,6 +1,5 @@
 -- Plans: what a change of the siblings comes to, and when it can be carried out.
 use Rattle.std.specs.Prelude.{◌≡◌, ◌<◌, ◌≤◌, ℕ, true, List, [], ◌∷◌, ◌++◌, length, None, IsSome, slice_set}
-use Rattle.tag_types.specs.declared.limits.TheConstants.{MAX_RELATIONS}
 use Rattle.sibling_chains.specs.declared.relation_row.RelationRow.{RelationRow}
 use Rattle.sibling_chains.specs.declared.sibling_plan.Adding.{Adding}
 use Rattle.sibling_chains.specs.declared.sibling_plan.Change.{Change}
@@ -41,7 +40,6 @@ pub record IsAdding (v : Known) (it : Adding) : Type 0 where
   pub bad : it.bad.0 < v.tags
   pub good : it.good.0 < v.tags
   pub new : good_of (pairs_of v.rows it.service) it.bad.0 ≡ None
-  pub few : length v.rows < MAX_RELATIONS
   pub room : 1 ≤ v.row_room
   pub refold : IsRefold v it.bad.0 it.good.0 (v.rows ++ row_of it ∷ []) it.refold
 

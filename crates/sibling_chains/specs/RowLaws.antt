@@ -1,5 +1,7 @@
 -- Rows of relations by number, and what a removal makes of them.
-use Rattle.std.proofs.Common.{◌≡◌, ℕ, zero, suc, ◌<◌, ◌≤◌, List, [], ◌∷◌, length, get_or, set, slice_get, Some, refl, ap, arith}
+use Rattle.std.proofs.Common.{◌≡◌, ℕ, zero, suc, ◌<◌, ◌≤◌, List, [], ◌∷◌, All, length, map, get_or, set, slice_get, Some, refl, ap, arith}
+use Rattle.std.specs.List.{AllByRecursion}
+use Rattle.std.proofs.lemmas.List.Elements.{All-from_recursion, recursion_from_All}
 use Rattle.sibling_chains.specs.declared.relation_row.RelationRow.{RelationRow}
 use Rattle.sibling_chains.specs.Recorded.{no_row, removed, removed_at}
 
@@ -48,3 +50,16 @@ pub row-there : (rows : List RelationRow) (at : ℕ) (row : RelationRow) → sli
 row-there [] at row is = absurd (cc)
 row-there (r ∷ rows) zero row is = cc
 row-there (r ∷ rows) (suc at) row is = row-there rows at row is
+
+pub map-removed : {X : Type 0} (f : RelationRow → X) → ((row : RelationRow) → f (removed row) ≡ f row) → (n : ℕ) (rows : List RelationRow) → map f (removed_at n rows) ≡ map f rows
+map-removed f same n [] = refl
+map-removed f same zero (row ∷ rows) = ap (λ x. x ∷ map f rows) (same row)
+map-removed f same (suc n) (row ∷ rows) = ap (λ l. f row ∷ l) (map-removed f same n rows)
+
+pub all-removed : (P : RelationRow → Type 0) → ((row : RelationRow) → P row → P (removed row)) → (n : ℕ) (rows : List RelationRow) → AllByRecursion P rows → AllByRecursion P (removed_at n rows)
+all-removed P keep n [] a = tt
+all-removed P keep zero (row ∷ rows) a = (keep row a.0, a.1)
+all-removed P keep (suc n) (row ∷ rows) a = (a.0, all-removed P keep n rows a.1)
+
+pub All-removed : (P : RelationRow → Type 0) → ((row : RelationRow) → P row → P (removed row)) → (n : ℕ) (rows : List RelationRow) → All P rows → All P (removed_at n rows)
+All-removed P keep n rows a = All-from_recursion P (removed_at n rows) (all-removed P keep n rows (recursion_from_All P rows a))

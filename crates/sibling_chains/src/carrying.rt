@@ -1,5 +1,6 @@
 ghost use Rattle.std.specs.Prelude.{◌≡◌, ◌==◌, ℕ, ◌+◌, ◌<◌, ◌≤◌, [], ◌∷◌, ◌++◌, Some, None, length, slice_index_or, slice_set, if◌then◌else◌};
 ghost use Rattle.std.specs.List.{list_any};
+ghost use Rattle.tag_types.specs.declared.limits.TheConstants.{MAX_RELATIONS};
 ghost use Rattle.sibling_chains.specs.Ends.{at, end_beside};
 ghost use Rattle.sibling_chains.specs.Known.{IsSame, ideal_in};
 ghost use Rattle.sibling_chains.specs.Planning.{IsAdding, IsOrdering, IsPlanFor, IsRemoving, IsTying, after, row_of};
@@ -14,7 +15,8 @@ impl Siblings {
     /// Carries a plan out, which was made of these siblings as they are. It takes no memory, and there may be no
     /// room for more rows after it.
     pub fn commit(&mut self, plan: SiblingPlan)
-        requires { IsPlanFor plan self.old }
+        requires fits { IsPlanFor plan self.old }
+        requires few { length (after plan self.old).rows ≤ MAX_RELATIONS }
         ensures after { IsSame self.new (after plan self.old) }
         ensures tag_room { self.old.tag_room ≤ self.new.tag_room }
         ensures service_room { self.new.service_room ≡ self.old.service_room }
@@ -28,7 +30,8 @@ impl Siblings {
     }
 
     fn add(&mut self, it: Adding)
-        requires { IsAdding self.old it }
+        requires fits { IsAdding self.old it }
+        requires few { length self.old.rows < MAX_RELATIONS }
         ensures rows { self.new.rows ≡ self.old.rows ++ row_of it ∷ [] }
         ensures ties { self.new.ties ≡ self.old.ties }
         ensures orders { self.new.orders ≡ self.old.orders }

@@ -172,6 +172,25 @@ impl Clusters {
         self.tags.next(label, from, steps)
     }
 
+    /// The tags of the clusters of two tags, ascending. Each is two reads, and so is the end.
+    pub fn tags_of_two<L: Ledger>(
+        &self,
+        a: u32,
+        b: u32,
+        steps: &mut Steps<L>,
+    ) -> Result<Vec<u32>, NoMemory>
+        requires a_known { a < self.now.tags }
+        requires b_known { b < self.now.tags }
+        ensures tags { IfOk result (λ v. v.items
+            ≡ filter (is_of_two self.now.rows self.now.ties a b) (range_with_len 0 self.now.tags)) }
+        ensures steps { steps.new ≤ steps.old
+            + 2 * (length (filter (is_of_two self.now.rows self.now.ties a b) (range_with_len 0 self.now.tags)) + 1) }
+    {
+        let a = self.label(a);
+        let b = self.label(b);
+        self.tags.members(self.alloc, a, b, steps)
+    }
+
     /// The clusters of two tags, which may be the same one. Each of its tags and rows is two reads, and so are
     /// the two ends.
     pub fn cluster_of<L: Ledger>(

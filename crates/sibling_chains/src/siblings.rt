@@ -197,7 +197,23 @@ impl Siblings {
         }
     }
 
-    /// Plans to record a pair. It makes the clusters of the two tags anew, and changes nothing.
+    /// The tags of the clusters of two tags, ascending, each once. Each counts as two reads, and so does the end.
+    pub fn tags_of_two<L: Ledger>(
+        &self,
+        a: TagNo,
+        b: TagNo,
+        steps: &mut Steps<L>,
+    ) -> Result<Vec<u32>, NoMemory>
+        requires a { a.0 < self.now.tags }
+        requires b { b.0 < self.now.tags }
+        ensures tags { IfOk result (λ v. v.items ≡ tags_of_two self.now a.0 b.0) }
+        ensures steps { steps.new ≤ steps.old + 2 * (length (tags_of_two self.now a.0 b.0) + 1) }
+    {
+        self.clusters.tags_of_two(a.0, b.0, steps)
+    }
+
+    /// Plans to record a pair. It makes the clusters of the two tags anew, and changes nothing. A pair is planned too
+    /// where there are as many rows as there can be; it can't be recorded then.
     pub fn plan_add<L: Ledger>(
         &mut self,
         service: ServiceNo,
@@ -209,7 +225,6 @@ impl Siblings {
         requires bad { bad.0 < self.old.tags }
         requires good { good.0 < self.old.tags }
         requires new { good_of (pairs_of self.old.rows service) bad.0 ≡ None }
-        requires few { length self.old.rows < MAX_RELATIONS }
         ensures same { IsSame self.new self.old }
         ensures fits { IfOk result (λ plan. IsPlanFor plan self.new) }
         ensures after { IfOk result (λ plan. after plan self.new ≡ record self.new {

@@ -1,4 +1,5 @@
 ghost use Rattle.std.specs.Prelude.{◌≡◌, ◌<◌};
+ghost use Rattle.sibling_chains.specs.Planning.{IsPlanFor};
 
 use super::*;
 use media_types::{NoMemory, ServiceNo, Steps, TagNo};
@@ -44,8 +45,16 @@ fn take_both<L: Ledger>(
     both.push(ServiceNo(1));
     assert!(rt; 0 < siblings.services());
     let plan = siblings.plan_order(ServiceNo(0), &both, steps)?;
-    siblings.commit(plan);
+    commit(rt, siblings, plan);
     Ok(())
+}
+
+fn commit(rt: &impl Abort, siblings: &mut Siblings, plan: SiblingPlan)
+    requires { IsPlanFor plan siblings.old }
+{
+    let rows = siblings.rows_len();
+    assert!(rt; rows < MAX_RELATIONS);
+    siblings.commit(plan);
 }
 
 fn add<L: Ledger>(
@@ -64,7 +73,7 @@ fn add<L: Ledger>(
             let plan = siblings.plan_add(service, bad, good, steps)?;
             assert!(rt; (service.0 as usize) < siblings.services());
             let planned = plan.ideal(siblings, service, bad);
-            siblings.commit(plan);
+            commit(rt, siblings, plan);
             assert!(rt; (service.0 as usize) < siblings.services());
             assert_eq!(rt; siblings.ideal(service, bad), planned);
             Ok(())
@@ -83,7 +92,7 @@ fn remove<L: Ledger>(
     match siblings.find(service, bad, steps) {
         Some(_) => {
             let plan = siblings.plan_remove(service, bad, steps)?;
-            siblings.commit(plan);
+            commit(rt, siblings, plan);
             Ok(())
         }
         None => Ok(()),
@@ -111,7 +120,7 @@ fn carry_out<L: Ledger>(
         Act::Tie(a, b) => {
             assert!(rt; a < siblings.tags() && b < siblings.tags());
             let plan = siblings.plan_tie(TagNo(a), TagNo(b), steps)?;
-            siblings.commit(plan);
+            commit(rt, siblings, plan);
             Ok(())
         }
     }

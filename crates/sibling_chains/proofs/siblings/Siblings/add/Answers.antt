@@ -16,8 +16,8 @@ pub put_all_ends-requires-clause-known : goal.put_all_ends-requires-clause-known
 put_all_ends-requires-clause-known c = λ s less.
     let v = c.self.inside.clusters in
     let ends : List (List ℕ) = c.self.inside.ends.items in
-    let room = rw (← c.self.view_is) at c.requires.room in
-    let tags : c.args.it.refold.cluster.tags.items ≡ filter (is_of_two v.rows v.ties c.args.it.bad.0 c.args.it.good.0) (range_with_len 0 v.tags) = rw (← c.self.view_is) at c.requires.refold.cluster.tags in
+    let room = rw (← c.self.view_is) at c.requires.fits.room in
+    let tags : c.args.it.refold.cluster.tags.items ≡ filter (is_of_two v.rows v.ties c.args.it.bad.0 c.args.it.good.0) (range_with_len 0 v.tags) = rw (← c.self.view_is) at c.requires.fits.refold.cluster.tags in
     known-tags v.tags c.as_slice.result.now (get_or ends s []) (long-at v.tags ends (room-long _ v.row_room room) s less)
     (subst (All (λ t. t < v.tags)) (sym (c.as_slice.ensures.value ∙ tags)) (passed-below (is_of_two v.rows v.ties c.args.it.bad.0 c.args.it.good.0) v.tags))
 
@@ -33,12 +33,12 @@ invariant_of-self c =
     let S : ℕ → Bool = is_of_two rows ties c.args.it.bad.0 c.args.it.good.0 in
     let row : RelationRow = record { service = c.args.it.service; first = c.args.it.bad; second = c.args.it.good; standing = true } in
     let new-rows : List RelationRow = rows ++ row ∷ [] in
-    let f : AreEndsFor tags (rows_within S new-rows) orders lists (length orders) = rw (← c.self.view_is) at c.requires.refold.ends in
-    let whole : (t : ℕ) → list_any (λ x. x == t) tags ≡ S t = rw (← c.self.view_is) at c.requires.refold.cluster.whole in
+    let f : AreEndsFor tags (rows_within S new-rows) orders lists (length orders) = rw (← c.self.view_is) at c.requires.fits.refold.ends in
+    let whole : (t : ℕ) → list_any (λ x. x == t) tags ≡ S t = rw (← c.self.view_is) at c.requires.fits.refold.cluster.whole in
     let by-tags : (s t : ℕ) → s < length ends → at (get_or c.put_all_ends.new.ends.items s []) t ≡ cond (list_any (λ x. x == t) tags) (end_beside tags (get_or c.as_slice-2.result.now s []) t) (at (get_or ends s []) t) =
     subst (λ l. (s t : ℕ) → s < length ends → at (get_or c.put_all_ends.new.ends.items s []) t ≡ cond (list_any (λ x. x == t) l) (end_beside l (get_or c.as_slice-2.result.now s []) t) (at (get_or ends s []) t)) c.as_slice.ensures.value c.put_all_ends.ensures.put in
     let put : (s t : ℕ) → s < length ends → at (get_or c.put_all_ends.new.ends.items s []) t ≡ cond (list_any (λ x. x == t) tags) (end_beside tags (get_or lists s []) t) (at (get_or ends s []) t) =
     subst (λ l. (s t : ℕ) → s < length ends → at (get_or c.put_all_ends.new.ends.items s []) t ≡ cond (list_any (λ x. x == t) tags) (end_beside tags (get_or l s []) t) (at (get_or ends s []) t)) c.as_slice-2.ensures.value by-tags in
     subst (λ l. AreFolded l orders c.put_all_ends.new.ends.items) (sym c.add.ensures.rows)
     (refolded rows new-rows orders ends lists c.put_all_ends.new.ends.items tags S c.self.invariant f whole c.put_all_ends.ensures.len put
-    (changes-add rows ties row) (All-push (λ (r : RelationRow). r.service.0 < length orders) rows row c.self.invariant.services (rw (← c.self.view_is) at c.requires.service)))
+    (changes-add rows ties row) (All-push (λ (r : RelationRow). r.service.0 < length orders) rows row c.self.invariant.services (rw (← c.self.view_is) at c.requires.fits.service)))

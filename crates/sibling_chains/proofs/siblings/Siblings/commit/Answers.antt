@@ -1,4 +1,5 @@
-use Rattle.std.proofs.Common.{◌∙◌, ◌++◌, ◌∷◌, [], ap, subst, sym, slice_set}
+use Rattle.std.proofs.Common.{◌∙◌, ◌≤◌, ◌++◌, ◌∷◌, [], ap, arith, length, length-append, subst, sym, slice_set}
+use Rattle.tag_types.specs.declared.limits.TheConstants.{MAX_RELATIONS}
 use Rattle.sibling_chains.specs.declared.sibling_plan.Adding.{Adding}
 use Rattle.sibling_chains.specs.declared.sibling_plan.Ordered.{Ordered}
 use Rattle.sibling_chains.specs.declared.sibling_plan.Removing.{Removing}
@@ -8,21 +9,29 @@ use Rattle.sibling_chains.specs.Planning.{IsAdding, IsChangeFor, IsOrdering, IsP
 use Rattle.sibling_chains.specs.Recorded.{removed_at, standing_place}
 use Rattle.sibling_chains.proofs.siblings.Siblings.commit.Goals as goal
 
-pub add-requires : goal.add-requires
+pub add-requires-clause-fits : goal.add-requires-clause-fits
 unfolding IsPlanFor
-add-requires c = subst (λ it. IsAdding c.args.self.now it) (sym c.in-Add.it-is) (subst (λ change. IsChangeFor change c.args.self.now) c.in-Add.is c.requires)
+add-requires-clause-fits c = subst (λ it. IsAdding c.args.self.now it) (sym c.in-Add.it-is) (subst (λ change. IsChangeFor change c.args.self.now) c.in-Add.is c.requires.fits)
+
+pub add-requires-clause-few : goal.add-requires-clause-few
+unfolding after
+add-requires-clause-few c =
+    let v : Known = c.args.self.now in
+    let few : length (changed c.args.plan.change v).rows ≤ MAX_RELATIONS = c.requires.few in
+    let added = subst (λ change. length (changed change v).rows ≤ MAX_RELATIONS) c.in-Add.is few in
+    omega (arith, added, length-append v.rows)
 
 pub remove-requires : goal.remove-requires
 unfolding IsPlanFor
-remove-requires c = subst (λ it. IsRemoving c.args.self.now it) (sym c.in-Remove.it-is) (subst (λ change. IsChangeFor change c.args.self.now) c.in-Remove.is c.requires)
+remove-requires c = subst (λ it. IsRemoving c.args.self.now it) (sym c.in-Remove.it-is) (subst (λ change. IsChangeFor change c.args.self.now) c.in-Remove.is c.requires.fits)
 
 pub tie-requires : goal.tie-requires
 unfolding IsPlanFor
-tie-requires c = subst (λ it. IsTying c.args.self.now it) (sym c.in-Tie.it-is) (subst (λ change. IsChangeFor change c.args.self.now) c.in-Tie.is c.requires)
+tie-requires c = subst (λ it. IsTying c.args.self.now it) (sym c.in-Tie.it-is) (subst (λ change. IsChangeFor change c.args.self.now) c.in-Tie.is c.requires.fits)
 
 pub order-requires : goal.order-requires
 unfolding IsPlanFor
-order-requires c = subst (λ it. IsOrdering c.args.self.now it) (sym c.in-Order.it-is) (subst (λ change. IsChangeFor change c.args.self.now) c.in-Order.is c.requires)
+order-requires c = subst (λ it. IsOrdering c.args.self.now it) (sym c.in-Order.it-is) (subst (λ change. IsChangeFor change c.args.self.now) c.in-Order.is c.requires.fits)
 
 pub returns-in-Add-clause-after : goal.returns-in-Add-clause-after
 unfolding after

@@ -1,5 +1,4 @@
 use Rattle.std.proofs.Common.{◌≡◌, ◌<◌, ◌++◌, ◌∷◌, [], List, length, None, true, sym, ap, subst}
-use Rattle.tag_types.specs.declared.limits.TheConstants.{MAX_RELATIONS}
 use Rattle.sibling_chains.specs.declared.relation_row.RelationRow.{RelationRow}
 use Rattle.sibling_chains.specs.Following.{good_of}
 use Rattle.sibling_chains.specs.Known.{Known}
@@ -16,7 +15,6 @@ returns-clause-fits g c =
       bad = subst (λ (v : Known). c.args.bad.0 < v.tags) same c.requires.bad;
       good = subst (λ (v : Known). c.args.good.0 < v.tags) same c.requires.good;
       new = subst (λ (v : Known). good_of (pairs_of v.rows c.args.service) c.args.bad.0 ≡ None) same c.requires.new;
-      few = subst (λ (v : Known). length v.rows < MAX_RELATIONS) same c.requires.few;
       room = c.in_ok-reserve_row.ensures.ok;
       refold = c.in_ok-refold.ensures.refold;
     }

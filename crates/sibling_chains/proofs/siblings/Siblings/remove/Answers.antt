@@ -8,7 +8,7 @@ use Rattle.sibling_chains.specs.Ends.{at, end_beside}
 use Rattle.sibling_chains.specs.Known.{AreEndsFor, AreFolded}
 use Rattle.sibling_chains.specs.Recorded.{removed_at, standing_place}
 use Rattle.sibling_chains.proofs.Gathered.{passed-below}
-use Rattle.sibling_chains.proofs.Joining.{All-removed}
+use Rattle.sibling_chains.specs.RowLaws.{All-removed}
 use Rattle.sibling_chains.proofs.Longs.{long-at}
 use Rattle.sibling_chains.proofs.Refolding.{changes-removal, known-tags, refolded, room-long}
 use Rattle.sibling_chains.proofs.siblings.Siblings.remove.Goals as goal
