@@ -3,3 +3,5 @@ pub mod Searching
 pub mod Steps
 pub mod Gathering
 pub mod Firsts
+pub mod AllTags
+pub mod Ascending

@@ -1,5 +1,5 @@
 -- The pairs that are read between ideal tags.
-use Rattle.std.proofs.Common.{◌≡◌, ◌∙◌, ℕ, zero, suc, ◌+◌, ◌==◌, ◌&&◌, ◌||◌, not, Bool, true, false, cond, List, [], ◌∷◌, ◌++◌, map, filter, take, slice_get, Some, refl, sym, ap, add-one}
+use Rattle.std.proofs.Common.{◌≡◌, ◌∙◌, ℕ, ◌==◌, ◌&&◌, ◌||◌, not, Bool, true, false, cond, List, [], ◌∷◌, ◌++◌, map, filter, refl, sym, ap}
 use Rattle.std.specs.List.{flat_map}
 use Rattle.std.proofs.lemmas.Bool.{eqb-true, eq-eqb}
 use Rattle.std.proofs.lemmas.List.{map-append}
@@ -56,12 +56,3 @@ has-without (x ∷ list) i b = by (x == i) refl (b == x) refl (has-without list 
         let no-it : (b == i) ≡ false = ap (λ n. n == i) (eqb-true b x ed) ∙ ec in
         rw (ed, no-it) refl
     by false ec false ed rest = rw ed rest
-
--- ---- one more row of a list
-take-next : (rows : List RelationRow) (i : ℕ) (row : RelationRow) → slice_get rows i ≡ Some row → take (suc i) rows ≡ take i rows ++ row ∷ []
-take-next [] i row is = absurd (cc)
-take-next (r ∷ rows) zero row is = let same : r ≡ row = cc in ap (λ (x : RelationRow). x ∷ []) same
-take-next (r ∷ rows) (suc i) row is = ap (λ (l : List RelationRow). r ∷ l) (take-next rows i row is)
-
-pub row-more : (rows : List RelationRow) (i : ℕ) (row : RelationRow) → slice_get rows i ≡ Some row → take (i + 1) rows ≡ take i rows ++ row ∷ []
-row-more rows i row is = ap (λ n. take n rows) (add-one i) ∙ take-next rows i row is

@@ -1,10 +1,9 @@
 -- What the tags of a service imply, read from the siblings and the parents, as they are or once plans are carried out.
-use Rattle.std.specs.Prelude.{ℕ, ◌&&◌, if◌then◌else◌, nat_le, nat_lt, List, [], map, Option, Some, None, slice_index_or}
+use Rattle.std.specs.Prelude.{ℕ, List, [], map, Option, Some, None, slice_index_or}
 use Rattle.media_types.specs.declared.numbers.ServiceNo.{ServiceNo}
 use Rattle.sibling_chains.specs.declared.sibling_plan.SiblingPlan.{SiblingPlan}
 use Rattle.sibling_chains.specs.declared.relation_row.RelationRow.{RelationRow}
 use Rattle.sibling_chains.specs.Following.{Pair}
-use Rattle.sibling_chains.specs.Grouping.{lesser_of}
 use Rattle.sibling_chains.specs.Known.{Known, ideal_in, order_of}
 use Rattle.sibling_chains.specs.Planning.{after as siblings_after}
 use Rattle.sibling_chains.specs.Recorded.{pairs_of}
@@ -39,7 +38,3 @@ chained (Some plan) w = siblings_after plan w
 -- the pairs of one service, read between the ideal tags of another
 abbrev pub steps_by : Known → ℕ → List RelationRow → ServiceNo → List Pair
 steps_by w s rows of = map (between_ideals (ideal_in w s)) (pairs_of rows of)
-
--- the nearer of a tag that isn't below one end nor above the other, and of what was found before
-abbrev pub nearer_of : ℕ → ℕ → ℕ → Option ℕ → Option ℕ
-nearer_of from end x found = if nat_le from x && nat_lt x end then lesser_of found (Some x) else found

@@ -3,6 +3,8 @@ pub mod ChainLaws
 pub mod CountLaws
 pub mod Implied
 pub mod Kept
+pub mod LimitLaws
+pub mod Limits
 pub mod Planning
 pub mod Reached
 pub mod SetLaws

@@ -1,6 +1,5 @@
 -- Plans: what a change of the parents comes to, and when it can be carried out.
 use Rattle.std.specs.Prelude.{◌≡◌, ◌<◌, ◌≤◌, ℕ, [], ◌∷◌, ◌++◌, length, slice_set, Option, Some, None}
-use Rattle.tag_types.specs.declared.limits.TheConstants.{MAX_RELATIONS}
 use Rattle.sibling_chains.specs.declared.relation_row.RelationRow.{RelationRow}
 use Rattle.sibling_chains.specs.Recorded.{removed_at}
 use Rattle.parent_closure.specs.declared.parent_plan.Change.{Change}
@@ -21,7 +20,6 @@ after plan v = changed plan.change v
 pub record IsAdding (v : Kept) (row : RelationRow) : Type 0 where
   pub child : row.first.0 < v.tags
   pub parent : row.second.0 < v.tags
-  pub few : length v.rows < MAX_RELATIONS
   pub room : 1 ≤ v.row_room
 
 pub record IsRemoving (v : Kept) (it : Removing) : Type 0 where

@@ -1,5 +1,5 @@
 -- A search for all that pairs lead to from a tag: the tags that are reached, and the pairs that wait.
-use Rattle.std.specs.Prelude.{ℕ, Bool, not, ◌==◌, if◌then◌else◌, List, [], ◌∷◌, ◌++◌}
+use Rattle.std.specs.Prelude.{◌≡◌, ◌↔◌, ℕ, Bool, true, Contains, not, ◌==◌, if◌then◌else◌, List, [], ◌∷◌, ◌++◌}
 use Rattle.std.specs.List.{list_any}
 use Rattle.sibling_chains.specs.Following.{Pair}
 
@@ -23,3 +23,7 @@ is_of_other child p = not (p.0 == child)
 -- another tag
 abbrev pub is_not : ℕ → ℕ → Bool
 is_not tag b = not (b == tag)
+
+-- the keys are the tags of the list
+abbrev pub AreSeen : List ℕ → List ℕ → Type 0
+AreSeen list keys = (b : ℕ) → (has list b ≡ true) ↔ Contains keys b

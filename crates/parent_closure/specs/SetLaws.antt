@@ -10,7 +10,7 @@ use Rattle.sibling_chains.specs.declared.relation_row.RelationRow.{RelationRow}
 use Rattle.sibling_chains.specs.Recorded.{ideal, pairs_in}
 use Rattle.sibling_chains.specs.Clusters.{IsClosed, outside}
 use Rattle.sibling_chains.specs.ClusterLaws.{alone, in-closed, in-within, outside-closed}
-use Rattle.parent_closure.specs.Ancestors.{Relations, between_ideals, ideal_of, implied, implies, is_above, leads, steps_of}
+use Rattle.parent_closure.specs.Ancestors.{Relations, ancestors, between_ideals, ideal_of, implied, implies, is_above, leads, steps_of}
 use Rattle.parent_closure.specs.Sets.{HaveSame, IsClosedFor, of_set, steps_within}
 use Rattle.parent_closure.specs.ChainLaws.{any-within, chains-short, enough}
 
@@ -146,6 +146,18 @@ others-imply S Q R c d same t b = elim (cases_Bool (S t)) [
       ∙ imply-alone (outside S) Q (outside-closed S Q.siblings c.0, outside-closed S Q.parents c.1) t out b)
 ]
 
+-- what a tag of a closed set implies lies in it
+pub implied-inside : (S : ℕ → Bool) (R : Relations) → IsClosedFor S R → (t : ℕ) → S t ≡ true → (b : ℕ) → implies R t b ≡ true → S b ≡ true
+unfolding implies
+implied-inside S R c t here b told =
+    let J : ℕ → ℕ = ideal_of R in
+    let split : (u : ℕ) → S (J u) ≡ S u = split-by S R.sibling_order R.siblings c.0 in
+    let closed : Closed S (pairs_in R.parent_order R.parents) = in-closed S R.parent_order R.parents (recursion_from_All (λ row. S row.first.0 ≡ S row.second.0) R.parents c.1) in
+    elim (or_cases (b == J t) (is_above (steps_of R) (J t) b) told) [
+      | inl own ↦ ap S (eqb-true b (J t) own) ∙ split t ∙ here
+      | inr led ↦ leads-inside S (steps_of R) (J t) (map-closed S J J split (λ u s. refl) (pairs_in R.parent_order R.parents) closed) (split t ∙ here) (length (steps_of R)) b led
+    ]
+
 -- ---- the pairs of a closed set
 
 -- chains depend on which pairs there are alone
@@ -166,23 +178,36 @@ same-above xs ys same a b =
     (λ e. chains-short ys (length xs) a b (sym (same-leads xs ys same (length xs) a b) ∙ e))
     (λ e. chains-short xs (length ys) a b (same-leads xs ys same (length ys) a b ∙ e))
 
--- the pairs of a closed set alone, between ideal tags, say what its tags imply
-pub within-imply : (S : ℕ → Bool) (R : Relations) (pairs : List Pair) → IsClosedFor S R → HaveSame pairs (steps_within S R) → (t : ℕ) → S t ≡ true → (b : ℕ)
-    → (b == ideal_of R t || is_above pairs (ideal_of R t) b) ≡ implies R t b
-unfolding implies
-within-imply S R pairs c same t here b =
+-- the pairs of a closed set alone, between ideal tags, lead from its tags to what all pairs lead to
+within-above : (S : ℕ → Bool) (R : Relations) (pairs : List Pair) → IsClosedFor S R → HaveSame pairs (steps_within S R) → (t : ℕ) → S t ≡ true → (b : ℕ)
+    → is_above pairs (ideal_of R t) b ≡ is_above (steps_of R) (ideal_of R t) b
+within-above S R pairs c same t here b =
     let J : ℕ → ℕ = ideal_of R in
     let split : (u : ℕ) → S (J u) ≡ S u = split-by S R.sibling_order R.siblings c.0 in
     let all : List Pair = pairs_in R.parent_order R.parents in
     let closed : Closed S all = in-closed S R.parent_order R.parents (recursion_from_All (λ row. S row.first.0 ≡ S row.second.0) R.parents c.1) in
     let steps : steps_within S R ≡ within S (steps_of R) =
     ap (map (between_ideals J)) (sym (in-within S R.parent_order R.parents)) ∙ map-within S J J split (λ u s. refl) all closed in
-    ap (λ x. b == J t || x) (same-above pairs (steps_within S R) same (J t) b)
-    ∙ ap (λ l. b == J t || is_above l (J t) b) steps
-    ∙ ap (λ x. b == J t || x) (above-within S (steps_of R) (J t) (map-closed S J J split (λ u s. refl) all closed) (split t ∙ here) b)
+    same-above pairs (steps_within S R) same (J t) b
+    ∙ ap (λ l. is_above l (J t) b) steps
+    ∙ above-within S (steps_of R) (J t) (map-closed S J J split (λ u s. refl) all closed) (split t ∙ here) b
 
--- and they say it of all n tags
+-- they say what its tags imply
+pub within-imply : (S : ℕ → Bool) (R : Relations) (pairs : List Pair) → IsClosedFor S R → HaveSame pairs (steps_within S R) → (t : ℕ) → S t ≡ true → (b : ℕ)
+    → (b == ideal_of R t || is_above pairs (ideal_of R t) b) ≡ implies R t b
+unfolding implies
+within-imply S R pairs c same t here b = ap (λ x. b == ideal_of R t || x) (within-above S R pairs c same t here b)
+
+-- they say it of all n tags
 pub within-implied : (S : ℕ → Bool) (R : Relations) (pairs : List Pair) → IsClosedFor S R → HaveSame pairs (steps_within S R) → (n t : ℕ) → S t ≡ true
     → filter (λ b. b == ideal_of R t || is_above pairs (ideal_of R t) b) (range_with_len 0 n) ≡ implied n R t
 within-implied S R pairs c same n t here =
     filter_agree (λ b. b == ideal_of R t || is_above pairs (ideal_of R t) b) (implies R t) (within-imply S R pairs c same t here) (range_with_len 0 n)
+
+-- and they say which of n tags are ancestors
+pub within-ancestors : (S : ℕ → Bool) (R : Relations) (pairs : List Pair) → IsClosedFor S R → HaveSame pairs (steps_within S R) → (n t : ℕ) → S t ≡ true
+    → filter (λ b. not (b == ideal_of R t) && is_above pairs (ideal_of R t) b) (range_with_len 0 n) ≡ ancestors n R t
+unfolding ancestors
+within-ancestors S R pairs c same n t here =
+    filter_agree (λ b. not (b == ideal_of R t) && is_above pairs (ideal_of R t) b) (λ b. not (b == ideal_of R t) && is_above (steps_of R) (ideal_of R t) b)
+    (λ b. ap (λ x. not (b == ideal_of R t) && x) (within-above S R pairs c same t here b)) (range_with_len 0 n)

@@ -2,6 +2,7 @@
 
 ghost use Rattle.std.specs.Prelude.{◌≡◌, ℕ, ◌+◌, ◌*◌, ◌<◌, ◌≤◌, ◌==◌, ◌||◌, ◌++◌, IfOk, OnOk, filter, length, map, slice_index_or};
 ghost use Rattle.std.specs.List.{flat_map, range_with_len};
+ghost use Rattle.std.specs.List.Sorted.{IsNonDecreasingBy};
 ghost use Rattle.std.specs.Option.{ForSome, option_map};
 ghost use Rattle.sibling_chains.specs.Clustered.{rows_but};
 ghost use Rattle.sibling_chains.specs.Clusters.{rows_within};
@@ -18,7 +19,7 @@ ghost use Rattle.parent_closure.specs.Sets.{HaveSame, steps_within};
 use crate::ancestors::{TagList, ascending, put_steps};
 use crate::parent_plan::{Change, ParentPlan};
 use crate::parents::Parents;
-use crate::search::{is_in, put, reached_from};
+use crate::search::{by_child, is_in, put, reached_from};
 use media_types::{NoMemory, ServiceNo, Steps};
 use sibling_chains::{RelationRow, SiblingPlan, Siblings};
 use std::alloc::Global;
@@ -171,7 +172,22 @@ pub fn implied_by(
     ensures { IfOk result (λ list. map (λ t. t.0) list
         ≡ filter (λ b. b == ideal || is_above pairs.now ideal b) (range_with_len 0 end)) }
 {
-    let mut reached = reached_from(alloc, Vec::from_slice(alloc, pairs)?, ideal)?;
+    let sorted = by_child(Vec::from_slice(alloc, pairs)?);
+    implied_from(alloc, sorted.as_slice(), ideal, end)
+}
+
+/// The same, of pairs that ascend by child.
+pub fn implied_from(
+    alloc: Global,
+    pairs: &[(u32, u32)],
+    ideal: u32,
+    end: u32,
+) -> Result<TagList, NoMemory>
+    requires { IsNonDecreasingBy (λ p. p.0) pairs.now }
+    ensures { IfOk result (λ list. map (λ t. t.0) list
+        ≡ filter (λ b. b == ideal || is_above pairs.now ideal b) (range_with_len 0 end)) }
+{
+    let mut reached = reached_from(alloc, pairs, ideal)?;
     put(&mut reached, ideal)?;
-    ascending(alloc, reached.as_slice(), end)
+    ascending(alloc, reached, end)
 }

@@ -176,8 +176,6 @@ impl Parents {
         requires service { service.0 < length self.old.orders }
         requires child { child.0 < self.old.tags }
         requires parent { parent.0 < self.old.tags }
-        requires new { stands_in self.old.rows service.0 child.0 parent.0 ≡ false }
-        requires few { length self.old.rows < MAX_RELATIONS }
         ensures same { self.new ≡ record self.old { row_room = self.new.row_room } }
         ensures fits { IfOk result (λ plan. IsPlanFor plan self.new) }
         ensures after { IfOk result (λ plan. after plan self.new ≡ record self.new {
@@ -245,7 +243,8 @@ impl Parents {
     /// room for more rows after it.
     #[tactic(auto, unfolding(crate::specs::Planning::after, crate::specs::Planning::IsPlanFor))]
     pub fn commit(&mut self, plan: ParentPlan)
-        requires { IsPlanFor plan self.old }
+        requires fits { IsPlanFor plan self.old }
+        requires few { length (after plan self.old).rows ≤ MAX_RELATIONS }
         ensures after { IsSame self.new (after plan self.old) }
         ensures service_room { self.new.service_room ≡ self.old.service_room }
     {
@@ -257,7 +256,8 @@ impl Parents {
     }
 
     fn add(&mut self, row: RelationRow)
-        requires { IsAdding self.old row }
+        requires fits { IsAdding self.old row }
+        requires few { length self.old.rows < MAX_RELATIONS }
         ensures rows { self.new.rows ≡ self.old.rows ++ row ∷ [] }
         ensures orders { self.new.orders ≡ self.old.orders }
         ensures tags { self.new.tags ≡ self.old.tags }

@@ -1,16 +1,24 @@
-ghost use Rattle.std.specs.Prelude.{◌≡◌, IfOk};
+ghost use Rattle.std.specs.Prelude.{◌≡◌, ℕ, ◌<◌, true, IfOk};
+ghost use Rattle.std.specs.List.{range_with_len};
+ghost use Rattle.std.specs.Option.{ForSome, option_map};
 ghost use Rattle.sibling_chains.specs.Planning.{IsPlanFor as IsSiblingPlanFor};
+ghost use Rattle.parent_closure.specs.CountLaws.{AreDifferent};
+ghost use Rattle.parent_closure.specs.Implied.{chained, planned, relations_of};
 ghost use Rattle.parent_closure.specs.Planning.{IsPlanFor};
+ghost use Rattle.parent_closure.specs.Reached.{has};
+ghost use Rattle.parent_closure.specs.Sets.{IsClosedFor};
 
 mod cases;
 mod cluster;
 mod every_set;
+mod limit;
 mod plans;
 mod rows;
 
 use super::*;
 use media_types::{NoMemory, ServiceNo, Steps, TagNo};
 use sibling_chains::{SiblingPlan, Siblings};
+use std::alloc::Global;
 use std::process::Abort;
 use std::sync::ledger::Ledger;
 use tag_types::{MAX_RELATIONS, MAX_SERVICES, MAX_TAGS, ServiceList};
@@ -62,17 +70,14 @@ fn list_of(rt: &impl Abort, services: &[u8]) -> ServiceList {
     list
 }
 
-fn plan_add<L: Ledger>(
+fn plan_add(
     rt: &impl Abort,
     parents: &mut Parents,
-    steps: &mut Steps<L>,
     row: (u8, u32, u32),
 ) -> Result<ParentPlan, NoMemory>
     ensures { IfOk result (λ plan. IsPlanFor plan parents.new) }
 {
     let (service, child, parent) = (ServiceNo(row.0), TagNo(row.1), TagNo(row.2));
-    let stands = parents.stands(service, child, parent, steps);
-    assert!(rt; !stands && parents.rows_len() < MAX_RELATIONS);
     assert!(rt; (service.0 as usize) < parents.services());
     assert!(rt; child.0 < parents.tags() && parent.0 < parents.tags());
     parents.plan_add(service, child, parent)
@@ -109,12 +114,62 @@ fn plan_edit<L: Ledger>(
     ensures { IfOk result (λ plan. IsPlanFor plan parents.new) }
 {
     match edit {
-        Edit::Add(service, child, parent) => plan_add(rt, parents, steps, (service, child, parent)),
+        Edit::Add(service, child, parent) => plan_add(rt, parents, (service, child, parent)),
         Edit::Remove(service, child, parent) => {
             Ok(plan_remove(rt, parents, steps, (service, child, parent)))
         }
         Edit::Order(service, order) => Ok(plan_order(rt, parents, service, order)),
     }
+}
+
+fn commit(rt: &impl Abort, parents: &mut Parents, plan: ParentPlan)
+    requires { IsPlanFor plan parents.old }
+{
+    let rows = parents.rows_len();
+    assert!(rt; rows < MAX_RELATIONS);
+    parents.commit(plan);
+}
+
+fn commit_link(rt: &impl Abort, siblings: &mut Siblings, plan: SiblingPlan)
+    requires { IsSiblingPlanFor plan siblings.old }
+{
+    let rows = siblings.rows_len();
+    assert!(rt; rows < MAX_RELATIONS);
+    siblings.commit(plan);
+}
+
+// The numbers below an end.
+fn numbers(alloc: Global, end: u32) -> Result<Vec<u32>, NoMemory>
+    ensures { IfOk result (λ v. v.items ≡ range_with_len 0 end) }
+{
+    let mut list = Vec::new(alloc);
+    for number in 0..end {
+        list.push(number)?;
+    }
+    Ok(list)
+}
+
+// All tags: they are whole clusters, also once plans are carried out.
+fn all_tags(
+    rt: &impl Abort,
+    parents: &Parents,
+    plan: Option<&ParentPlan>,
+    siblings: &Siblings,
+    chains: Option<&SiblingPlan>,
+) -> Result<Vec<u32>, NoMemory>
+    requires plan { ForSome plan (λ p. IsPlanFor p.now parents.now) }
+    requires chains { ForSome chains (λ p. IsSiblingPlanFor p.now siblings.now) }
+    ensures different { IfOk result (λ v. AreDifferent v.items) }
+    ensures here { IfOk result (λ v. (t : ℕ) → t < parents.now.tags → has v.items t ≡ true) }
+    ensures closed { IfOk result (λ v. (s : ℕ) → IsClosedFor (has v.items)
+        (relations_of (planned (option_map (λ p. p.now) plan.entry) parents.now)
+        (chained (option_map (λ p. p.now) chains.entry) siblings.now) s)) }
+{
+    let end = parents.tags();
+    let other = siblings.tags();
+    assert!(rt; end == other);
+    let list = numbers(parents.alloc, end)?;
+    Ok(list)
 }
 
 fn edit_all<L: Ledger>(
@@ -125,7 +180,7 @@ fn edit_all<L: Ledger>(
 ) -> Result<(), NoMemory> {
     for edit in edits {
         let plan = plan_edit(rt, parents, steps, *edit)?;
-        parents.commit(plan);
+        commit(rt, parents, plan);
     }
     Ok(())
 }
@@ -183,7 +238,7 @@ fn link_all<L: Ledger>(
 ) -> Result<(), NoMemory> {
     for link in links {
         let plan = plan_link(rt, siblings, steps, *link)?;
-        siblings.commit(plan);
+        commit_link(rt, siblings, plan);
     }
     Ok(())
 }

@@ -1,6 +1,6 @@
 ghost use Rattle.std.specs.Prelude.{◌≡◌, ◌<◌};
 
-use super::{Edit, Link, assert_tags, edit_all, link_all, prepare};
+use super::{Edit, Link, all_tags, assert_tags, edit_all, link_all, prepare};
 use crate::Parents;
 use media_types::{NoMemory, ServiceNo, Steps, TagNo};
 use sibling_chains::Siblings;
@@ -22,11 +22,20 @@ fn assert_ancestors<L: Ledger>(
 ) -> Result<(), NoMemory> {
     assert!(rt; (service as usize) < parents.services());
     assert!(rt; (service as usize) < siblings.services());
+    let tags = all_tags(rt, parents, None, siblings, None)?;
+    let end = parents.tags();
     let mut tag = 0;
     for list in want {
-        let found = parents.ancestors(siblings, ServiceNo(service), TagNo(tag), steps)?;
+        assert!(rt; tag < end);
+        let found = parents.ancestors(
+            siblings,
+            ServiceNo(service),
+            tags.as_slice(),
+            TagNo(tag),
+            end,
+            steps,
+        )?;
         assert_tags(rt, tag, &found, list);
-        assert!(rt; tag < 100);
         tag += 1;
     }
     Ok(())

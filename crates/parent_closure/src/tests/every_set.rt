@@ -1,6 +1,6 @@
 ghost use Rattle.std.specs.Prelude.{◌≡◌, ◌<◌};
 
-use super::{Edit, Link, edit_all, link_all, prepare};
+use super::{Edit, Link, all_tags, edit_all, link_all, prepare};
 use crate::{Parents, TagList};
 use media_types::{NoMemory, ServiceNo, Steps, TagNo};
 use sibling_chains::Siblings;
@@ -99,9 +99,23 @@ fn assert_tag<L: Ledger>(
     above: &[bool; 4],
 ) -> Result<(), NoMemory> {
     assert!(rt; 0 < parents.services() && 0 < siblings.services());
-    let found = parents.ancestors(siblings, ServiceNo(0), TagNo(tag), steps)?;
+    let tags = all_tags(rt, parents, None, siblings, None)?;
+    let end = parents.tags();
+    assert!(rt; tag < end);
+    let service = ServiceNo(0);
+    let tag_no = TagNo(tag);
+    let found = parents.ancestors(siblings, service, tags.as_slice(), tag_no, end, steps)?;
     assert_found(rt, set, tag, &found, above);
-    let found = parents.implied_after(None, siblings, None, ServiceNo(0), TagNo(tag), steps)?;
+    let found = parents.implied_after(
+        None,
+        siblings,
+        None,
+        service,
+        tags.as_slice(),
+        tag_no,
+        end,
+        steps,
+    )?;
     assert_found(rt, set, tag, &found, implied);
     Ok(())
 }

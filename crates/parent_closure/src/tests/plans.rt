@@ -3,7 +3,10 @@ ghost use Rattle.std.specs.Option.{ForSome};
 ghost use Rattle.sibling_chains.specs.Planning.{IsPlanFor as IsSiblingPlanFor};
 ghost use Rattle.parent_closure.specs.Planning.{IsPlanFor};
 
-use super::{Edit, Link, assert_tags, edit_all, link_all, plan_edit, plan_link, prepare};
+use super::{
+    Edit, Link, all_tags, assert_tags, commit, commit_link, edit_all, link_all, plan_edit,
+    plan_link, prepare,
+};
 use crate::{ParentPlan, Parents};
 use media_types::{NoMemory, ServiceNo, Steps, TagNo};
 use sibling_chains::{SiblingPlan, Siblings};
@@ -28,11 +31,22 @@ fn assert_implied<L: Ledger>(
     requires chains { ForSome chains (λ p. IsSiblingPlanFor p.now siblings.now) }
 {
     assert!(rt; 0 < parents.services() && 0 < siblings.services());
+    let tags = all_tags(rt, parents, plan, siblings, chains)?;
+    let end = parents.tags();
     let mut tag = 0;
     for list in want {
-        let found = parents.implied_after(plan, siblings, chains, ServiceNo(0), TagNo(tag), steps)?;
+        assert!(rt; tag < end);
+        let found = parents.implied_after(
+            plan,
+            siblings,
+            chains,
+            ServiceNo(0),
+            tags.as_slice(),
+            TagNo(tag),
+            end,
+            steps,
+        )?;
         assert_tags(rt, tag, &found, list);
-        assert!(rt; tag < 100);
         tag += 1;
     }
     Ok(())
@@ -64,10 +78,10 @@ fn commit_edit_first<L: Ledger>(
     requires plan { IsPlanFor plan parents.old }
     requires chains { IsSiblingPlanFor chains siblings.old }
 {
-    parents.commit(plan);
+    commit(rt, parents, plan);
     assert_implied(rt, parents, None, siblings, None, steps, row.edited)?;
     assert_implied(rt, parents, None, siblings, Some(&chains), steps, row.after)?;
-    siblings.commit(chains);
+    commit_link(rt, siblings, chains);
     assert_implied(rt, parents, None, siblings, None, steps, row.after)
 }
 
@@ -83,10 +97,10 @@ fn commit_link_first<L: Ledger>(
     requires plan { IsPlanFor plan parents.old }
     requires chains { IsSiblingPlanFor chains siblings.old }
 {
-    siblings.commit(chains);
+    commit_link(rt, siblings, chains);
     assert_implied(rt, parents, None, siblings, None, steps, row.linked)?;
     assert_implied(rt, parents, Some(&plan), siblings, None, steps, row.after)?;
-    parents.commit(plan);
+    commit(rt, parents, plan);
     assert_implied(rt, parents, None, siblings, None, steps, row.after)
 }
 
