@@ -1,0 +1,5 @@
+pub mod Planning
+pub mod PlanLaws
+pub mod Related
+pub mod Work
+pub mod WorkLaws
