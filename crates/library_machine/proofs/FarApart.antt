@@ -15,7 +15,8 @@ use Rattle.file_records.specs.Searching.{queue_of, rising, searched}
 use Rattle.potential_pairs.specs.Pages.{named, page_of}
 use Rattle.potential_pairs.specs.Potential.{Row, potential_at, potentials}
 use Rattle.library_machine.specs.Asking.{answer, query_needs, related}
-use Rattle.library_machine.specs.Changing.{answer_to, effect, is_idle, needs}
+use Rattle.library_machine.specs.Changing.{answer_to, is_idle, needs}
+use Rattle.library_machine.specs.Effects.{effect}
 use Rattle.library_machine.specs.Jobs.{worked_out}
 use Rattle.library_machine.specs.Searches.{after_search, has_room_for_near, next_search}
 use Rattle.library_machine.specs.Session.{nothing, replies, state_after}

@@ -11,7 +11,8 @@ use Rattle.media_base.specs.declared.refusal.Refusal.TheVariants as refusals
 use Rattle.media_base.specs.declared.refusal.Unmet.{Unmet}
 use Rattle.media_base.specs.declared.reply.Answer.{Answer}
 use Rattle.library_machine.specs.Asking.{asked}
-use Rattle.library_machine.specs.Changing.{does, effect}
+use Rattle.library_machine.specs.Changing.{does}
+use Rattle.library_machine.specs.Effects.{effect}
 use Rattle.library_machine.specs.Desks.{Desks}
 use Rattle.library_machine.specs.Jobs.{Deed, tells, makes, worked_out}
 use Rattle.library_machine.specs.Laws.{AnswersKeepFit, StepsKeepFit, WantsChange}

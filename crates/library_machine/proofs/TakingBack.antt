@@ -9,7 +9,8 @@ use Rattle.media_base.specs.declared.refusal.Unmet.TheVariants as whys
 use Rattle.file_records.specs.declared.file_row.FileRow.{FileRow}
 use Rattle.file_records.specs.Living.{is_live, with_live_mark, with_mark}
 use Rattle.file_records.specs.MarkLaws as marks
-use Rattle.library_machine.specs.Changing.{effect, is_idle, is_marked, needs}
+use Rattle.library_machine.specs.Changing.{is_idle, is_marked, needs}
+use Rattle.library_machine.specs.Effects.{effect}
 use Rattle.library_machine.specs.Laws.{DeletionsAreTakenBack}
 use Rattle.library_machine.specs.Needs.{has_file}
 use Rattle.library_machine.specs.Records.{Records}

@@ -1,5 +1,5 @@
--- The changes of the records: what each needs, when it would change nothing, what is recorded then, and what is told.
-use Rattle.std.specs.Prelude.{ℕ, Bool, true, false, ◌==◌, not, if◌then◌else◌, List, [], ◌∷◌, ◌++◌, length, Option, Some, None, Result}
+-- The changes of the records: what each needs, when it would change nothing, and what is told.
+use Rattle.std.specs.Prelude.{ℕ, Bool, true, false, ◌==◌, not, if◌then◌else◌, List, [], ◌∷◌, length, Option, Some, None, Result}
 use Rattle.media_types.specs.declared.numbers.FileNo.{FileNo}
 use Rattle.media_base.specs.declared.change.Change.{Change}
 use Rattle.media_base.specs.declared.change.Change.TheVariants as changes
@@ -10,18 +10,15 @@ use Rattle.media_base.specs.declared.reply.Answer.TheVariants as answers
 use Rattle.media_base.specs.declared.reply.ImportStatus.{ImportStatus}
 use Rattle.media_base.specs.declared.reply.ImportStatus.TheVariants as imports
 use Rattle.file_records.specs.declared.file_row.FileRow.{FileRow}
-use Rattle.file_records.specs.Living.{is_live, with_live_mark}
+use Rattle.file_records.specs.Living.{is_live}
 use Rattle.file_records.specs.Lookup.{file_with}
-use Rattle.file_records.specs.Rows.{row_of}
-use Rattle.decision_book.specs.Recorded.{undone_at}
-use Rattle.decision_book.specs.Standing as book
 use Rattle.library_machine.specs.Guards.{guarded}
 use Rattle.tag_types.specs.declared.map_state.MapState.{MapState}
-use Rattle.library_machine.specs.Needs.{Need, file_there, files_there, two_files, decision_there, not_undone, room_for_file, room_for_near, room_for_decision, service_there, services_there, tag_there, room_for_tag, room_for_mapping, room_for_service, no_good_yet, pair_stands, room_for_tags, room_for_sibling, is_known, is_met, unmet}
+use Rattle.library_machine.specs.Needs.{Need, file_there, files_there, two_files, decision_there, not_undone, room_for_file, room_for_near, room_for_decision, service_there, services_there, tag_there, room_for_tag, room_for_mapping, room_for_service, no_good_yet, pair_stands, room_for_tags, few_implied, room_for_sibling, no_parent_yet, parent_stands, room_for_parent, is_known, is_met, unmet}
 use Rattle.library_machine.specs.Records.{Records}
-use Rattle.library_machine.specs.Relating.{pair_tags, with_sibling, without_sibling}
+use Rattle.library_machine.specs.Relating.{pair_tags}
 use Rattle.library_machine.specs.Searches.{after_search, counts, is_empty, risen}
-use Rattle.library_machine.specs.Tagging.{has_orders, is_mapped_so, mapping_told, next_service, services_named, with_mapping, with_orders, with_service}
+use Rattle.library_machine.specs.Tagging.{has_orders, is_mapped_so, mapping_told, next_service, services_named}
 
 -- A tag that is mapped may be new; one whose mapping is taken away is there.
 abbrev pub mapping_needs : Mapping → Option MapState → List Need
@@ -37,10 +34,12 @@ needs (changes.Undo n) = decision_there n ∷ not_undone n ∷ []
 needs (changes.Distance d) = []
 needs (changes.Searched s) = files_there s.files ∷ room_for_near s ∷ []
 needs changes.Service = room_for_service ∷ []
-needs (changes.Orders service orders) = services_there (services_named service orders) ∷ []
+needs (changes.Orders service orders) = services_there (services_named service orders) ∷ few_implied (changes.Orders service orders) ∷ []
 needs (changes.Mapping m) = file_there m.file ∷ service_there m.service ∷ mapping_needs m m.state
-needs (changes.SiblingAdded pair) = service_there pair.service ∷ no_good_yet pair.service pair.first ∷ room_for_tags pair.first pair.second ∷ room_for_sibling ∷ []
-needs (changes.SiblingRemoved pair) = service_there pair.service ∷ tag_there pair.first ∷ tag_there pair.second ∷ pair_stands pair ∷ []
+needs (changes.SiblingAdded pair) = service_there pair.service ∷ no_good_yet pair.service pair.first ∷ room_for_tags pair.first pair.second ∷ few_implied (changes.SiblingAdded pair) ∷ room_for_sibling ∷ []
+needs (changes.SiblingRemoved pair) = service_there pair.service ∷ tag_there pair.first ∷ tag_there pair.second ∷ pair_stands pair ∷ few_implied (changes.SiblingRemoved pair) ∷ []
+needs (changes.ParentAdded pair) = service_there pair.service ∷ no_parent_yet pair ∷ room_for_tags pair.first pair.second ∷ few_implied (changes.ParentAdded pair) ∷ room_for_parent ∷ []
+needs (changes.ParentRemoved pair) = service_there pair.service ∷ tag_there pair.first ∷ tag_there pair.second ∷ parent_stands pair ∷ few_implied (changes.ParentRemoved pair) ∷ []
 
 -- whether the file's mark is this one
 abbrev pub is_marked : Records → FileNo → Bool → Bool
@@ -60,21 +59,8 @@ is_idle r (changes.Orders service orders) = has_orders r service orders
 is_idle r (changes.Mapping m) = is_mapped_so r m
 is_idle r (changes.SiblingAdded pair) = false
 is_idle r (changes.SiblingRemoved pair) = false
-
--- What is recorded then, where it isn't idle. A marked file keeps all else; an undone decision keeps its number; and
--- how far each file was searched stays when the distance changes.
-unfoldable pub effect : Records → Change → Records
-effect r (changes.File file) = record r { files = r.files ++ row_of file ∷ [] }
-effect r (changes.Live f live) = record r { files = with_live_mark f.0 live r.files }
-effect r (changes.Decision d) = record r { decisions = r.decisions ++ book.row_of d ∷ [] }
-effect r (changes.Undo n) = record r { decisions = undone_at n.0 r.decisions }
-effect r (changes.Distance d) = record r { distance = d }
-effect r (changes.Searched s) = after_search r s
-effect r changes.Service = with_service r
-effect r (changes.Orders service orders) = with_orders r service orders
-effect r (changes.Mapping m) = with_mapping r m
-effect r (changes.SiblingAdded pair) = with_sibling r pair
-effect r (changes.SiblingRemoved pair) = without_sibling r pair
+is_idle r (changes.ParentAdded pair) = false
+is_idle r (changes.ParentRemoved pair) = false
 
 -- what an import finds of the known file of number k
 abbrev pub known_status : List FileRow → ℕ → ImportStatus
@@ -97,6 +83,8 @@ answer_to r (changes.Orders service orders) = answers.Service service
 answer_to r (changes.Mapping m) = mapping_told r m m.state
 answer_to r (changes.SiblingAdded pair) = answers.Sibling (pair_tags r pair)
 answer_to r (changes.SiblingRemoved pair) = answers.Changed true
+answer_to r (changes.ParentAdded pair) = answers.Parent (pair_tags r pair)
+answer_to r (changes.ParentRemoved pair) = answers.Changed true
 
 -- whether the change would change nothing, or why it is refused
 abbrev pub does : Records → Change → Result Bool Unmet

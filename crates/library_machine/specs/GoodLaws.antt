@@ -27,15 +27,23 @@ use Rattle.file_records.specs.MarkLaws as marks
 use Rattle.file_records.specs.NearLaws as near
 use Rattle.file_records.specs.SearchLaws as searches
 use Rattle.decision_book.specs.DecisionLaws.{undoing_keeps_decisions, undoing_keeps_length}
-use Rattle.library_machine.specs.Changing.{does, effect, is_idle, is_marked, needs}
+use Rattle.library_machine.specs.Changing.{does, is_idle, is_marked, mapping_needs, needs}
+use Rattle.library_machine.specs.Effects.{effect}
 use Rattle.library_machine.specs.Guards.{AreMet}
 use Rattle.library_machine.specs.Laws.{ChangesDiffer, ChangesKeepFit}
 use Rattle.library_machine.specs.Needs.{Met, is_met, unmet}
-use Rattle.library_machine.specs.RelatedLaws.{added_fit, fit_more, removed_fit, removed_other, tags_fit}
-use Rattle.library_machine.specs.Relating.{place_of, with_sibling, without_sibling}
+use Rattle.library_machine.specs.LimitLaws.{service_few, tags_few}
+use Rattle.library_machine.specs.RelatedLaws.{added_fit, fit_more, parent_other, removed_fit, removed_other, rows_fit, tags_fit}
+use Rattle.library_machine.specs.Relating.{parent_place, place_of, with_parent, with_sibling, without_parent, without_sibling}
+use Rattle.media_base.specs.declared.change.Mapping.{Mapping}
+use Rattle.media_base.specs.declared.change.TagPair.{TagPair}
+use Rattle.media_types.specs.declared.numbers.ServiceNo.{ServiceNo}
+use Rattle.sibling_chains.specs.declared.relation_row.RelationRow.{RelationRow}
+use Rattle.tag_types.specs.declared.limits.TheConstants.{MAX_SERVICES}
+use Rattle.tag_types.specs.declared.orders.Orders.{Orders}
 use Rattle.tag_store.specs.Numbering.{with_tag}
 use Rattle.tag_store.specs.NumberingLaws.{length-grows}
-use Rattle.library_machine.specs.Records.{Records, Fits, IsPairThere, PairsFit, TagsFit, IsThere, IsNew, IsRecorded, no_records}
+use Rattle.library_machine.specs.Records.{Records, Fits, IsPairThere, PairsFit, TagsFit, IsThere, IsNew, IsRecorded, IsService, no_records, too_many}
 use Rattle.library_machine.specs.Searches.{after_search, is_empty, risen}
 use Rattle.library_machine.specs.MeetingLaws.{all_met, means, none_there, one_file}
 use Rattle.library_machine.specs.TaggedLaws.{fit_more_files, none_ascends, service_fit, orders_fit, orders_other, mapping_fits, mapping_other}
@@ -73,6 +81,8 @@ file_good r file new (inr room) fits = record {
   of_two = fits.of_two;
   tags = fit_more_files (length r.files) _ r (omega (arith, length-append r.files)) fits.tags;
   siblings = fits.siblings;
+  parents = fits.parents;
+  few_implied = fits.few_implied;
 }
 
 -- ---- marks
@@ -89,6 +99,8 @@ mark_good r file live fits = record {
   of_two = fits.of_two;
   tags = rw (marks.same_length file.0 live r.files) fits.tags;
   siblings = fits.siblings;
+  parents = fits.parents;
+  few_implied = fits.few_implied;
 }
 
 -- a file that is there has a row
@@ -130,6 +142,8 @@ decision_good r d a b two room fits = record {
       rw map-append (All-push OfTwo (map book.decision_of r.decisions) d fits.of_two (λ e. two (one_file d.a d.b e)));
   tags = fits.tags;
   siblings = fits.siblings;
+  parents = fits.parents;
+  few_implied = fits.few_implied;
 }
 
 undoing_good : (r : Records) (n : DecisionNo) → Fits r → Fits (record r { decisions = undone_at n.0 r.decisions })
@@ -142,6 +156,8 @@ undoing_good r n fits = record {
   of_two = rw (undoing_keeps_decisions n.0 r.decisions) fits.of_two;
   tags = fits.tags;
   siblings = fits.siblings;
+  parents = fits.parents;
+  few_implied = fits.few_implied;
 }
 
 -- the row of an undone decision is another one
@@ -168,6 +184,8 @@ distance_good r d fits = record {
   of_two = fits.of_two;
   tags = fits.tags;
   siblings = fits.siblings;
+  parents = fits.parents;
+  few_implied = fits.few_implied;
 }
 
 search_good : (r : Records) (s : Searching) → is_empty (risen r s) ≡ false →
@@ -182,6 +200,8 @@ search_good r s fresh (inr room) fits = record {
   of_two = fits.of_two;
   tags = rw (searches.same_length s.distance s.files r.files) fits.tags;
   siblings = fits.siblings;
+  parents = fits.parents;
+  few_implied = fits.few_implied;
 }
 
 search_other : (r : Records) (s : Searching) → is_empty (risen r s) ≡ false → after_search r s ≢ r
@@ -190,10 +210,14 @@ search_other r s fresh same =
 
 -- ---- tags
 
--- records that differ in tags, services, mappings and siblings alone
+-- the pairs of records fit
+abbrev RowsFit : Records → Type 0
+RowsFit r = PairsFit (length r.services) (length r.tags) r.siblings × PairsFit (length r.services) (length r.tags) r.parents
+
+-- records that differ in tags, services, mappings and pairs alone
 with_tags : (r s : Records) → s.files ≡ r.files → s.decisions ≡ r.decisions → s.distance ≡ r.distance
-    → TagsFit (length r.files) s.tags s.services s.mappings → PairsFit (length s.services) (length s.tags) s.siblings → Fits r → Fits s
-with_tags r s files decisions distance tags siblings fits = record {
+    → TagsFit (length r.files) s.tags s.services s.mappings → RowsFit s → too_many s ≡ None → Fits r → Fits s
+with_tags r s files decisions distance tags rows few fits = record {
   few_files = rw files fits.few_files;
   few_decisions = rw decisions fits.few_decisions;
   few_near = rw files fits.few_near;
@@ -201,14 +225,47 @@ with_tags r s files decisions distance tags siblings fits = record {
   among = rw (files, decisions) fits.among;
   of_two = rw decisions fits.of_two;
   tags = rw files tags;
-  siblings = siblings;
+  siblings = rows.0;
+  parents = rows.1;
+  few_implied = few;
 }
 
-more_services : (r : Records) → PairsFit (length r.services) (length r.tags) r.siblings → PairsFit (length (with_service r).services) (length r.tags) r.siblings
-more_services r fit = fit_more _ _ _ _ r.siblings (omega (arith, length-append r.services)) (omega arith) fit
+service_good : (r : Records) → length r.services < MAX_SERVICES → Fits r → Fits (with_service r)
+service_good r room fits =
+    let more = λ (rows : List RelationRow). fit_more (length r.services) (length r.tags) (length (with_service r).services) (length r.tags) rows (omega (arith, length-append r.services)) (omega arith) in
+    with_tags r (with_service r) refl refl refl (service_fit r room fits.tags) (more r.siblings fits.siblings, more r.parents fits.parents)
+    (service_few r fits.siblings fits.parents fits.few_implied) fits
 
-more_tags : (r : Records) (text : List ℕ) → PairsFit (length r.services) (length r.tags) r.siblings → PairsFit (length r.services) (length (with_tag r.tags text)) r.siblings
-more_tags r text fit = fit_more _ _ _ _ r.siblings (omega arith) (length-grows text r.tags) fit
+orders_good : (r : Records) (service : ServiceNo) (orders : Orders) → too_many (with_orders r service orders) ≡ None → Fits r → Fits (with_orders r service orders)
+orders_good r service orders few fits =
+    with_tags r (with_orders r service orders) refl refl refl (orders_fit r service orders fits.tags)
+    (rw (length-set r.services service.0 orders) fits.siblings, rw (length-set r.services service.0 orders) fits.parents) few fits
+
+mapping_good : (r : Records) (m : Mapping) → IsThere r m.file → IsService r m.service → AreMet (Met r) (mapping_needs m m.state) → Fits r → Fits (with_mapping r m)
+mapping_good r m file service met fits =
+    let more = λ (rows : List RelationRow). fit_more (length r.services) (length r.tags) (length r.services) (length (with_tag r.tags m.tag)) rows (omega arith) (length-grows m.tag r.tags) in
+    with_tags r (with_mapping r m) refl refl refl (mapping_fits r m file service met fits.tags) (more r.siblings fits.siblings, more r.parents fits.parents)
+    (tags_few r (length (with_tag r.tags m.tag)) (length-grows m.tag r.tags) fits.siblings fits.parents fits.few_implied) fits
+
+sibling_good : (r : Records) (pair : TagPair) → AreMet (Met r) (needs (changes.SiblingAdded pair)) → Fits r → Fits (with_sibling r pair)
+unfolding needs effect
+sibling_good r pair met fits =
+    with_tags r (with_sibling r pair) refl refl refl (tags_fit r pair met.1.1.0 fits.tags)
+    (added_fit r pair r.siblings met.0 met.1.1.1.1.0 fits.siblings, rows_fit r pair r.parents fits.parents) met.1.1.1.0 fits
+
+no_sibling_good : (r : Records) (pair : TagPair) → too_many (without_sibling r pair) ≡ None → Fits r → Fits (without_sibling r pair)
+no_sibling_good r pair few fits =
+    with_tags r (without_sibling r pair) refl refl refl fits.tags (removed_fit _ _ (place_of r pair) r.siblings fits.siblings, fits.parents) few fits
+
+parent_good : (r : Records) (pair : TagPair) → AreMet (Met r) (needs (changes.ParentAdded pair)) → Fits r → Fits (with_parent r pair)
+unfolding needs effect
+parent_good r pair met fits =
+    with_tags r (with_parent r pair) refl refl refl (tags_fit r pair met.1.1.0 fits.tags)
+    (rows_fit r pair r.siblings fits.siblings, added_fit r pair r.parents met.0 met.1.1.1.1.0 fits.parents) met.1.1.1.0 fits
+
+no_parent_good : (r : Records) (pair : TagPair) → too_many (without_parent r pair) ≡ None → Fits r → Fits (without_parent r pair)
+no_parent_good r pair few fits =
+    with_tags r (without_parent r pair) refl refl refl fits.tags (fits.siblings, removed_fit _ _ (parent_place r pair) r.parents fits.parents) few fits
 
 -- ---- all changes
 
@@ -240,24 +297,32 @@ good r (changes.Searched s) met fresh = record {
   other = search_other r s fresh;
 }
 good r changes.Service met fresh = record {
-  fits = λ fits. with_tags r (with_service r) refl refl refl (service_fit r met.0 fits.tags) (more_services r fits.siblings) fits;
+  fits = service_good r met.0;
   other = λ same. longer r.services _ (ap (λ (s : Records). s.services) same);
 }
 good r (changes.Orders service orders) met fresh = record {
-  fits = λ fits. with_tags r (with_orders r service orders) refl refl refl (orders_fit r service orders fits.tags) (rw (length-set r.services service.0 orders) fits.siblings) fits;
+  fits = orders_good r service orders met.1.0;
   other = orders_other r service orders (met.0 0 service (omega arith)) fresh;
 }
 good r (changes.Mapping m) met fresh = record {
-  fits = λ fits. with_tags r (with_mapping r m) refl refl refl (mapping_fits r m met.0 met.1.0 met.1.1 fits.tags) (more_tags r m.tag fits.siblings) fits;
+  fits = mapping_good r m met.0 met.1.0 met.1.1;
   other = mapping_other r m fresh;
 }
 good r (changes.SiblingAdded pair) met fresh = record {
-  fits = λ fits. with_tags r (with_sibling r pair) refl refl refl (tags_fit r pair met.1.1.0 fits.tags) (added_fit r pair met.0 met.1.1.1.0 fits.siblings) fits;
+  fits = sibling_good r pair met;
   other = λ same. longer r.siblings _ (ap (λ (s : Records). s.siblings) same);
 }
 good r (changes.SiblingRemoved pair) met fresh = record {
-  fits = λ fits. with_tags r (without_sibling r pair) refl refl refl fits.tags (removed_fit _ _ (place_of r pair) r.siblings fits.siblings) fits;
+  fits = no_sibling_good r pair met.1.1.1.1.0;
   other = removed_other r pair met.1.1.1.0.0 met.1.1.1.0.1;
+}
+good r (changes.ParentAdded pair) met fresh = record {
+  fits = parent_good r pair met;
+  other = λ same. longer r.parents _ (ap (λ (s : Records). s.parents) same);
+}
+good r (changes.ParentRemoved pair) met fresh = record {
+  fits = no_parent_good r pair met.1.1.1.1.0;
+  other = parent_other r pair met.1.1.1.0;
 }
 
 lawful_good : (r : Records) (c : Change) → does r c ≡ Ok false → IsGood r c

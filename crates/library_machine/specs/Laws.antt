@@ -16,7 +16,8 @@ use Rattle.media_base.specs.Replying.{Reply}
 use Rattle.file_records.specs.Living.{is_live}
 use Rattle.file_records.specs.Near.{near_pairs}
 use Rattle.library_machine.specs.Asking.{query_needs}
-use Rattle.library_machine.specs.Changing.{does, effect, needs}
+use Rattle.library_machine.specs.Changing.{does, needs}
+use Rattle.library_machine.specs.Effects.{effect}
 use Rattle.library_machine.specs.Guards.{IsFirstUnmet}
 use Rattle.library_machine.specs.Jobs.{makes, worked_out}
 use Rattle.library_machine.specs.Needs.{Need, Met, unmet}

@@ -2,10 +2,12 @@ pub mod Asking
 pub mod Changing
 pub mod Covering
 pub mod Desks
+pub mod Effects
 pub mod GoodLaws
 pub mod Guards
 pub mod Jobs
 pub mod Laws
+pub mod LimitLaws
 pub mod MeetingLaws
 pub mod Needs
 pub mod Opening
@@ -28,6 +30,9 @@ pub use Rattle.file_records.specs.Rows
 pub use Rattle.file_records.specs.Searching
 pub use Rattle.media_base.specs.Names
 pub use Rattle.media_base.specs.Replying
+pub use Rattle.parent_closure.specs.Ancestors as Implying
+pub use Rattle.parent_closure.specs.Kept as Parenting
+pub use Rattle.parent_closure.specs.Limits
 pub use Rattle.potential_pairs.specs.Pages
 pub use Rattle.potential_pairs.specs.Potential
 pub use Rattle.relation_groups.specs.Relations

@@ -16,10 +16,13 @@ use Rattle.file_records.specs.Lookup.{file_with}
 use Rattle.decision_book.specs.declared.decision_row.DecisionRow.{DecisionRow}
 use Rattle.file_records.specs.LookupLaws.{not_found}
 use Rattle.library_machine.specs.Guards.{guarded, IsFirstUnmet, AreMet}
+use Rattle.media_base.specs.declared.change.TagPair.{TagPair}
+use Rattle.parent_closure.specs.Kept.{stands_in}
+use Rattle.tag_store.specs.Numbering.{number_of}
 use Rattle.tag_store.specs.NumberingLaws.{numbered_there}
-use Rattle.library_machine.specs.Needs.{Need, file_there, files_there, two_files, decision_there, not_undone, room_for_file, room_for_near, room_for_decision, service_there, services_there, tag_there, room_for_tag, room_for_mapping, room_for_service, no_good_yet, pair_stands, room_for_tags, room_for_sibling, has_file, has_service, is_met, Met}
+use Rattle.library_machine.specs.Needs.{Need, file_there, files_there, two_files, decision_there, not_undone, room_for_file, room_for_near, room_for_decision, service_there, services_there, tag_there, room_for_tag, room_for_mapping, room_for_service, no_good_yet, pair_stands, room_for_tags, few_implied, room_for_sibling, no_parent_yet, parent_stands, room_for_parent, has_file, has_service, is_met, Met}
 use Rattle.library_machine.specs.Records.{Records, IsThere, IsNew, IsRecorded, IsService}
-use Rattle.library_machine.specs.Relating.{good_number, text_of}
+use Rattle.library_machine.specs.Relating.{IsParent, good_number, text_of}
 use Rattle.library_machine.specs.Searches.{is_empty, risen}
 
 -- the test passes exactly where it is so
@@ -90,6 +93,23 @@ stands_if r second (Some good) = (
       (bytes_eq-Decides (text_of r good) second).1 (sym (ap (text_of r) same) ∙ there.2),
 )
 
+parent_if : (r : Records) (pair : TagPair) (first second : Option ℕ) → number_of pair.first r.tags ≡ first → number_of pair.second r.tags ≡ second →
+    Says (option_map_or (λ child. option_map_or (λ parent. stands_in r.parents pair.service.0 child parent) second false) first false) (IsParent r pair)
+parent_if r pair None second none is = (λ e. absurd (cc e), λ there. absurd (cc (none, there.2)))
+parent_if r pair (Some child) None is none = (λ e. absurd (cc e), λ there. absurd (cc (none, there.3)))
+parent_if r pair (Some child) (Some parent) is also = (
+  λ e. (child, parent, is, also, e),
+  λ there.
+      let child_same : child ≡ there.0 = same_Some _ _ (sym is ∙ there.2) in
+      let parent_same : parent ≡ there.1 = same_Some _ _ (sym also ∙ there.3) in
+      ap (λ (c : ℕ). stands_in r.parents pair.service.0 c parent) child_same ∙ ap (stands_in r.parents pair.service.0 there.0) parent_same ∙ there.4,
+)
+
+-- what says that something is so says by its contrary that it isn't
+fails : (test : Bool) {P : Type 0} → Says test P → Says (not test) (¬ P)
+fails true says = (λ e. absurd (cc e), λ none. absurd (none (says.0 refl)))
+fails false says = (λ e p. both_ways _ refl (says.1 p), λ none. refl)
+
 -- one line for each kind of need
 pub means : (r : Records) (need : Need) → Says (is_met r need) (Met r need)
 means r (file_there f) = less _ _
@@ -109,7 +129,11 @@ means r room_for_service = less _ _
 means r (no_good_yet service text) = none_there_yet _
 means r (pair_stands pair) = stands_if r pair.second (good_number r pair.service pair.first)
 means r (room_for_tags first second) = at_most _ _
+means r (few_implied change) = none_there_yet _
 means r room_for_sibling = less _ _
+means r (no_parent_yet pair) = fails _ (parent_if r pair _ _ refl refl)
+means r (parent_stands pair) = parent_if r pair _ _ refl refl
+means r room_for_parent = less _ _
 
 -- ---- needs in order
 

@@ -10,6 +10,7 @@ use Rattle.media_types.specs.declared.numbers.DecisionNo.{DecisionNo}
 use Rattle.media_types.specs.declared.numbers.FileNo.{FileNo}
 use Rattle.media_types.specs.declared.numbers.ServiceNo.{ServiceNo}
 use Rattle.media_types.specs.declared.searching.Searching.{Searching}
+use Rattle.media_base.specs.declared.change.Change.{Change}
 use Rattle.media_base.specs.declared.change.Mapping.{Mapping}
 use Rattle.media_base.specs.declared.change.TagPair.{TagPair}
 use Rattle.media_base.specs.declared.refusal.Unmet.{Unmet}
@@ -18,8 +19,9 @@ use Rattle.file_records.specs.Lookup.{file_with}
 use Rattle.file_records.specs.Near.{near_pairs}
 use Rattle.tag_types.specs.declared.limits.TheConstants.{MAX_MAPPINGS, MAX_RELATIONS, MAX_SERVICES, MAX_TAGS}
 use Rattle.tag_store.specs.Numbering.{number_of}
-use Rattle.library_machine.specs.Records.{Records, IsThere, IsNew, IsRecorded, IsService, IsTagged}
-use Rattle.library_machine.specs.Relating.{good_number, good_text, has_pair, text_of, with_both}
+use Rattle.library_machine.specs.Effects.{effect}
+use Rattle.library_machine.specs.Records.{Records, IsThere, IsNew, IsRecorded, IsService, IsTagged, too_many}
+use Rattle.library_machine.specs.Relating.{IsParent, good_number, good_text, has_pair, has_parent, text_of, too_many_told, with_both}
 use Rattle.library_machine.specs.Searches.{after_search, has_room_for_near, is_empty, risen}
 use Rattle.library_machine.specs.Tagging.{mapped}
 
@@ -49,7 +51,14 @@ pub data Need : Type 0 where
   pair_stands : TagPair → Need
   -- for the tags of these texts, where they are new
   room_for_tags : List ℕ → List ℕ → Need
+  -- no tag implies too many, once this change is made
+  few_implied : Change → Need
   room_for_sibling : Need
+  -- this parent pair doesn't stand
+  no_parent_yet : TagPair → Need
+  -- this parent pair stands
+  parent_stands : TagPair → Need
+  room_for_parent : Need
 
 abbrev pub has_file : Records → FileNo → Bool
 has_file r f = nat_lt f.0 (length r.files)
@@ -85,7 +94,11 @@ is_met r room_for_service = nat_lt (length r.services) MAX_SERVICES
 is_met r (no_good_yet service text) = not (is_some (good_number r service text))
 is_met r (pair_stands pair) = has_pair r pair
 is_met r (room_for_tags first second) = nat_le (length (with_both r.tags first second)) MAX_TAGS
+is_met r (few_implied change) = not (is_some (too_many (effect r change)))
 is_met r room_for_sibling = nat_lt (length r.siblings) MAX_RELATIONS
+is_met r (no_parent_yet pair) = not (has_parent r pair)
+is_met r (parent_stands pair) = has_parent r pair
+is_met r room_for_parent = nat_lt (length r.parents) MAX_RELATIONS
 
 -- the same in plain words
 abbrev pub Met : Records → Need → Type 0
@@ -106,9 +119,13 @@ Met r room_for_service = length r.services < MAX_SERVICES
 Met r (no_good_yet service text) = good_number r service text ≡ None
 Met r (pair_stands pair) = (good : ℕ) × (good_number r pair.service pair.first ≡ Some good) × (text_of r good ≡ pair.second)
 Met r (room_for_tags first second) = length (with_both r.tags first second) ≤ MAX_TAGS
+Met r (few_implied change) = too_many (effect r change) ≡ None
 Met r room_for_sibling = length r.siblings < MAX_RELATIONS
+Met r (no_parent_yet pair) = ¬ IsParent r pair
+Met r (parent_stands pair) = IsParent r pair
+Met r room_for_parent = length r.parents < MAX_RELATIONS
 
--- A pair that is known tells the good tag that stands.
+-- A pair that is known tells the good tag, or the parent, that stands.
 abbrev pub unmet : Records → Need → Unmet
 unmet r (file_there f) = whys.UnknownFile
 unmet r (files_there fs) = whys.UnknownFile
@@ -127,4 +144,8 @@ unmet r room_for_service = whys.FullServices
 unmet r (no_good_yet service text) = whys.PairKnown (good_text r service text)
 unmet r (pair_stands pair) = whys.UnknownPair
 unmet r (room_for_tags first second) = whys.FullTags
+unmet r (few_implied change) = too_many_told (effect r change)
 unmet r room_for_sibling = whys.FullRelations
+unmet r (no_parent_yet pair) = whys.PairKnown pair.second
+unmet r (parent_stands pair) = whys.UnknownPair
+unmet r room_for_parent = whys.FullRelations

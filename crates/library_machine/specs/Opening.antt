@@ -5,7 +5,8 @@ use Rattle.media_base.specs.declared.change.Change.{Change}
 use Rattle.media_base.specs.declared.refusal.Unmet.{Unmet}
 use Rattle.media_base.specs.Keeping.{Readings, with_change}
 use Rattle.media_base.specs.Replying.{Reply}
-use Rattle.library_machine.specs.Changing.{does, effect}
+use Rattle.library_machine.specs.Changing.{does}
+use Rattle.library_machine.specs.Effects.{effect}
 use Rattle.library_machine.specs.Records.{Records, no_records}
 
 -- what is kept, with the change of a step behind it where the reply is no refusal

@@ -1,5 +1,6 @@
 -- What a library records, and nothing else. All that it tells is computed from these lists.
-use Rattle.std.specs.Prelude.{◌≡◌, ◌<◌, ◌≤◌, ℕ, Bool, List, [], length, map, Some, All, IsSome, Contains, slice_get}
+use Rattle.std.specs.Prelude.{◌≡◌, ◌<◌, ◌≤◌, ℕ, Bool, List, [], length, map, Option, Some, None, All, IsSome, Contains, slice_get}
+use Rattle.std.specs.Option.{option_map_or}
 use Rattle.media_types.specs.declared.hash.Sha.{Sha}
 use Rattle.media_types.specs.declared.limits.TheConstants.{FIRST_DISTANCE, MAX_DECISIONS, MAX_FILES, MAX_NEAR}
 use Rattle.media_types.specs.declared.numbers.DecisionNo.{DecisionNo}
@@ -18,6 +19,8 @@ use Rattle.tag_store.specs.Mapped as mapped
 use Rattle.tag_store.specs.Numbering.{AreDistinctTexts}
 use Rattle.tag_store.specs.Serving.{first_services}
 use Rattle.sibling_chains.specs.declared.relation_row.RelationRow.{RelationRow}
+use Rattle.parent_closure.specs.Ancestors.{Relations}
+use Rattle.parent_closure.specs.Limits.{over_limit}
 
 pub record Records : Type 0 where
   -- in order of import
@@ -34,6 +37,8 @@ pub record Records : Type 0 where
   pub mappings : List mapped.Row
   -- pairs of a bad tag and its good one, in order of recording, removed ones among them
   pub siblings : List RelationRow
+  -- pairs of a child and its parent likewise
+  pub parents : List RelationRow
 
 abbrev pub no_records : Records
 no_records = record {
@@ -44,7 +49,25 @@ no_records = record {
   services = first_services;
   mappings = [];
   siblings = [];
+  parents = [];
 }
+
+-- one of the two lists of a service's orders; that of a service that isn't there is empty
+abbrev pub order_at : Records → ℕ → (Orders → List ServiceNo) → List ServiceNo
+order_at r s list_of = option_map_or list_of (slice_get r.services s) []
+
+-- what is known of the tags of a service
+abbrev pub all_relations : Records → ℕ → Relations
+all_relations r s = record {
+  sibling_order = order_at r s (λ orders. orders.siblings);
+  parent_order = order_at r s (λ orders. orders.parents);
+  siblings = r.siblings;
+  parents = r.parents;
+}
+
+-- the lowest service in which a tag implies too many, and the lowest such tag
+abbrev pub too_many : Records → Option (ℕ × ℕ)
+too_many r = over_limit (length r.services) (length r.tags) (all_relations r)
 
 -- the service, the tag and the file are among so many
 pub record AreThere (services tags files s t f : ℕ) : Type 0 where
@@ -72,7 +95,7 @@ pub record PairsFit (services tags : ℕ) (rows : List RelationRow) : Type 0 whe
   pub there : All (IsPairThere services tags) rows
 
 -- What records of every session are: within the limits, with no two files of one SHA-256, and each
--- decision is of two different files that are there.
+-- decision is of two different files that are there. No tag implies too many.
 pub record Fits (r : Records) : Type 0 where
   pub few_files : length r.files ≤ MAX_FILES
   pub few_decisions : length r.decisions ≤ MAX_DECISIONS
@@ -82,6 +105,8 @@ pub record Fits (r : Records) : Type 0 where
   pub of_two : AreOfTwo (map decision_of r.decisions)
   pub tags : TagsFit (length r.files) r.tags r.services r.mappings
   pub siblings : PairsFit (length r.services) (length r.tags) r.siblings
+  pub parents : PairsFit (length r.services) (length r.tags) r.parents
+  pub few_implied : too_many r ≡ None
 
 -- a file with this number is recorded
 abbrev pub IsThere : Records → FileNo → Type 0

@@ -1,6 +1,7 @@
--- What changes of sibling pairs leave: records that fit, and others. The ideal tag of a tag that is there is there too.
-use Rattle.std.proofs.Common.{◌≡◌, ◌≢◌, ◌<◌, ◌≤◌, ◌==◌, ◌&&◌, ℕ, zero, suc, Bool, true, false, cond, option_and_then, nat_lt, Option, Some, None, List, [], ◌∷◌, length, length-append, map, filter, arith, refl, sym, ap, subst, ◌∙◌}
-use Rattle.std.specs.List.{AllByRecursion}
+-- What changes of pairs leave: records that fit, and others. The ideal tag of a tag that is there is there too, and so
+-- are its ancestors.
+use Rattle.std.proofs.Common.{◌≡◌, ◌≢◌, ◌<◌, ◌≤◌, ◌==◌, ◌&&◌, ◌||◌, ℕ, zero, suc, Bool, true, false, cond, option_and_then, nat_lt, Option, Some, None, List, [], ◌∷◌, ◌++◌, length, length-append, map, filter, arith, refl, sym, ap, subst, ◌∙◌}
+use Rattle.std.specs.List.{AllByRecursion, list_any}
 use Rattle.std.proofs.lemmas.Bool.{lt-ltb, ltb-true, ne_eqb}
 use Rattle.std.proofs.lemmas.List.Elements.{All-push, All-from_recursion, recursion_from_All}
 use Rattle.media_types.specs.declared.numbers.ServiceNo.{ServiceNo}
@@ -15,8 +16,9 @@ use Rattle.sibling_chains.specs.Following.{good_of}
 use Rattle.sibling_chains.specs.Recorded.{pair_of, pairs_of, removed, removed_at, standing_place}
 use Rattle.sibling_chains.specs.RowLaws.{length-removed}
 use Rattle.sibling_chains.specs.declared.relation_row.RelationRow.{RelationRow}
+use Rattle.parent_closure.specs.Kept.{first_place, is_pair, stands_in}
 use Rattle.library_machine.specs.Records.{Records, IsPairThere, IsService, PairsFit, TagsFit}
-use Rattle.library_machine.specs.Relating.{good_number, ideal_number, pair_tags, row_of, sibling_order, with_both, with_sibling, without_sibling}
+use Rattle.library_machine.specs.Relating.{IsParent, good_number, ideal_number, pair_tags, row_of, sibling_order, with_both, without_parent, without_sibling}
 use Rattle.library_machine.specs.Tagging.{numbered}
 
 -- among more services and tags
@@ -34,7 +36,7 @@ module _ (r : Records) (pair : TagPair) where
       omega (arith, first, second)
 
   -- the two tags of a pair are there once they are numbered
-  pub pair_there : ((pair_tags r pair).bad.0 < length (with_both r.tags pair.first pair.second)) × ((pair_tags r pair).good.0 < length (with_both r.tags pair.first pair.second))
+  pub pair_there : ((pair_tags r pair).first.0 < length (with_both r.tags pair.first pair.second)) × ((pair_tags r pair).second.0 < length (with_both r.tags pair.first pair.second))
   pair_there =
       let bad = next_within pair.first r.tags in
       let more = length-grows pair.second (with_tag r.tags pair.first) in
@@ -44,7 +46,7 @@ module _ (r : Records) (pair : TagPair) where
   row_there service = (service, pair_there.0, pair_there.1)
 
   pub tags_fit : length (with_both r.tags pair.first pair.second) ≤ MAX_TAGS → TagsFit (length r.files) r.tags r.services r.mappings
-      → TagsFit (length r.files) (with_sibling r pair).tags r.services r.mappings
+      → TagsFit (length r.files) (with_both r.tags pair.first pair.second) r.services r.mappings
   tags_fit few fit = record {
     few_tags = few;
     few_services = fit.few_services;
@@ -54,13 +56,17 @@ module _ (r : Records) (pair : TagPair) where
     there = λ s t f is. let at = fit.there s t f is in record { service = at.service; tag = omega (arith, at.tag, grows); file = at.file };
   }
 
-  pub added_fit : IsService r pair.service → length r.siblings < MAX_RELATIONS → PairsFit (length r.services) (length r.tags) r.siblings
-      → PairsFit (length r.services) (length (with_sibling r pair).tags) (with_sibling r pair).siblings
-  added_fit service room fit =
-      let more = fit_more (length r.services) (length r.tags) (length r.services) (length (with_both r.tags pair.first pair.second)) r.siblings (omega arith) grows fit in
+  -- the rows still fit among the tags of the pair
+  pub rows_fit : (rows : List RelationRow) → PairsFit (length r.services) (length r.tags) rows → PairsFit (length r.services) (length (with_both r.tags pair.first pair.second)) rows
+  rows_fit rows fit = fit_more (length r.services) (length r.tags) (length r.services) (length (with_both r.tags pair.first pair.second)) rows (omega arith) grows fit
+
+  pub added_fit : (rows : List RelationRow) → IsService r pair.service → length rows < MAX_RELATIONS → PairsFit (length r.services) (length r.tags) rows
+      → PairsFit (length r.services) (length (with_both r.tags pair.first pair.second)) (rows ++ row_of r pair ∷ [])
+  added_fit rows service room fit =
+      let more = rows_fit rows fit in
       record {
-        few = omega (arith, room, length-append r.siblings);
-        there = All-push (IsPairThere (length r.services) (length (with_both r.tags pair.first pair.second))) r.siblings (row_of r pair) more.there (row_there service);
+        few = omega (arith, room, length-append rows);
+        there = All-push (IsPairThere (length r.services) (length (with_both r.tags pair.first pair.second))) rows (row_of r pair) more.there (row_there service);
       }
 
 -- ---- a pair that is removed
@@ -111,6 +117,39 @@ good_stands r service text good = numbered_good r service text good _ refl
 pub removed_other : (r : Records) (pair : TagPair) (good : ℕ) → good_number r pair.service pair.first ≡ Some good → without_sibling r pair ≢ r
 removed_other r pair good is same =
     place_differs pair.service (numbered r pair.first).0 good r.siblings (good_stands r pair.service pair.first good is) (ap (λ (s : Records). s.siblings) same)
+
+-- the first row that stands for a pair becomes another one
+pair_differs : (s child parent : ℕ) (rows : List RelationRow) → list_any (is_pair s child parent) rows ≡ true → removed_at (first_place (is_pair s child parent) rows) rows ≢ rows
+pair_differs s child parent [] is = absurd (cc is)
+pair_differs s child parent (row ∷ rows) is = by (is_pair s child parent row) row.standing refl refl (pair_differs s child parent rows) is
+  where
+    first_part : (a b c d : Bool) → (((a && b) && c) && d) ≡ true → a ≡ true
+    first_part true b c d is = refl
+    first_part false b c d is = is
+
+    by : (here stands : Bool) → is_pair s child parent row ≡ here → row.standing ≡ stands
+        → (list_any (is_pair s child parent) rows ≡ true → removed_at (first_place (is_pair s child parent) rows) rows ≢ rows)
+        → (here || list_any (is_pair s child parent) rows) ≡ true
+        → removed_at (cond here 0 (suc (first_place (is_pair s child parent) rows))) (row ∷ rows) ≢ row ∷ rows
+    by true true here stands rest is same =
+        let head : removed row ≡ row = cc same in
+        let standing = ap (λ (row : RelationRow). row.standing) head in
+        cc (standing, stands)
+    by true false here stands rest is same =
+        let yes_stands : row.standing ≡ true = first_part row.standing (row.service.0 == s) (row.first.0 == child) (row.second.0 == parent) here in
+        cc (yes_stands, stands)
+    by false stands here is_standing rest is same = rest is (cc same)
+
+-- a parent pair that stands does so by the numbers of its texts
+pub parent_stands : (r : Records) (pair : TagPair) → IsParent r pair → stands_in r.parents pair.service.0 (numbered r pair.first).0 (numbered r pair.second).0 ≡ true
+parent_stands r pair there =
+    let child = number_is pair.first r.tags (number_of pair.first r.tags) refl there.0 there.2 in
+    let parent = number_is pair.second r.tags (number_of pair.second r.tags) refl there.1 there.3 in
+    ap (λ (c : ℕ). stands_in r.parents pair.service.0 c (numbered r pair.second).0) child ∙ ap (stands_in r.parents pair.service.0 there.0) parent ∙ there.4
+
+pub parent_other : (r : Records) (pair : TagPair) → IsParent r pair → without_parent r pair ≢ r
+parent_other r pair there same =
+    pair_differs pair.service.0 (numbered r pair.first).0 (numbered r pair.second).0 r.parents (parent_stands r pair there) (ap (λ (s : Records). s.parents) same)
 
 -- ---- good tags
 

@@ -10,7 +10,8 @@ use Rattle.media_base.specs.declared.refusal.Unmet.{Unmet}
 use Rattle.media_base.specs.declared.reply.Answer.{Answer}
 use Rattle.media_base.specs.Replying.{Reply}
 use Rattle.library_machine.specs.Asking.{asked}
-use Rattle.library_machine.specs.Changing.{answer_to, does, effect}
+use Rattle.library_machine.specs.Changing.{answer_to, does}
+use Rattle.library_machine.specs.Effects.{effect}
 use Rattle.library_machine.specs.Desks.{Desks, no_desks}
 use Rattle.library_machine.specs.Jobs.{Deed, tells, makes, tended, worked_out}
 use Rattle.library_machine.specs.Records.{Records}

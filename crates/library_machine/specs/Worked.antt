@@ -141,6 +141,14 @@ sibling_of n bad good = Do (changes.SiblingAdded (record { service = record { 0 
 abbrev pub no_sibling_of : ℕ → List ℕ → List ℕ → Command
 no_sibling_of n bad good = Do (changes.SiblingRemoved (record { service = record { 0 = n }; first = bad; second = good }))
 
+-- the parent pair of these texts in service n is recorded
+abbrev pub parent_of : ℕ → List ℕ → List ℕ → Command
+parent_of n child parent = Do (changes.ParentAdded (record { service = record { 0 = n }; first = child; second = parent }))
+
+-- and is removed
+abbrev pub no_parent_of : ℕ → List ℕ → List ℕ → Command
+no_parent_of n child parent = Do (changes.ParentRemoved (record { service = record { 0 = n }; first = child; second = parent }))
+
 -- the question what the ideal tag of this text is in service n
 abbrev pub ideal_of : ℕ → List ℕ → Command
 ideal_of n text = Ask (queries.Ideal (record { 0 = n }) text)
@@ -211,10 +219,18 @@ mapped n now = Ok (answers.Mapped (record { tag = record { 0 = n }; changed = no
 abbrev pub tagged : List (List ℕ) → List (List ℕ) → List (List ℕ) → Reply
 tagged current pending deleted = Ok (answers.Mappings (record { current = current; pending = pending; deleted = deleted }))
 
--- the numbers of a pair's tags
+-- the numbers of a sibling pair's tags
 abbrev pub paired : ℕ → ℕ → Reply
-paired bad good = Ok (answers.Sibling (record { bad = record { 0 = bad }; good = record { 0 = good } }))
+paired bad good = Ok (answers.Sibling (record { first = record { 0 = bad }; second = record { 0 = good } }))
 
--- the ideal tag, which implies no others
+-- the numbers of a parent pair's tags
+abbrev pub parented : ℕ → ℕ → Reply
+parented child parent = Ok (answers.Parent (record { first = record { 0 = child }; second = record { 0 = parent } }))
+
+-- the ideal tag with its ancestors
+abbrev pub ideal_under : List ℕ → List (List ℕ) → Reply
+ideal_under text ancestors = Ok (answers.Ideal (record { ideal = text; ancestors = ancestors }))
+
+-- the ideal tag, which has no ancestors
 abbrev pub ideal : List ℕ → Reply
-ideal text = Ok (answers.Ideal (record { ideal = text; ancestors = [] }))
+ideal text = ideal_under text []

@@ -1,24 +1,28 @@
 ghost use Rattle.std.specs.Prelude.{◌≡◌, true, false, [], ◌∷◌, codes, map};
 ghost use Rattle.media_types.specs.declared.decision.Code.TheVariants.{Alternates, NotRelated, Same};
-ghost use Rattle.media_base.specs.declared.refusal.Unmet.TheVariants.{AlreadyUndone, FullDecisions, FullFiles, FullMappings, FullNear, FullServices, FullRelations, FullTags, PairKnown, SameFile, UnknownDecision, UnknownFile, UnknownPair, UnknownService, UnknownTag};
+ghost use Rattle.media_base.specs.declared.refusal.Unmet.TheVariants.{AlreadyUndone, FullDecisions, FullFiles, FullMappings, FullNear, FullServices, FullRelations, FullTags, PairKnown, SameFile, TooManyImplied, UnknownDecision, UnknownFile, UnknownPair, UnknownService, UnknownTag};
 ghost use Rattle.media_base.specs.declared.reply.ImportStatus.TheVariants.{New, Known, Deleted};
 ghost use Rattle.tag_types.specs.declared.map_state.MapState.TheVariants.{Current, Pending, Deleted as Taken};
 ghost use Rattle.library_machine.specs.Session.{nothing, replies, replies_behind};
-ghost use Rattle.library_machine.specs.Worked.{decide_of, import_of, import_with, queued, queues, pairs_from, pairs_behind, count_within, counted, listed, search_of, search_next, searched, distance_of, within, better_than, delete_of, undelete_of, changed, rebalance, rebalanced, relations_of, decision_of, undo_of, imported, decided, recorded, undone, grouped, standing, add_service, orders_of, map_of, unmap_of, mappings_of, served, mapped, tagged, sibling_of, no_sibling_of, ideal_of, paired, ideal, no, refusals_of};
+ghost use Rattle.library_machine.specs.Worked.{decide_of, import_of, import_with, queued, queues, pairs_from, pairs_behind, count_within, counted, listed, search_of, search_next, searched, distance_of, within, better_than, delete_of, undelete_of, changed, rebalance, rebalanced, relations_of, decision_of, undo_of, imported, decided, recorded, undone, grouped, standing, add_service, orders_of, map_of, unmap_of, mappings_of, served, mapped, tagged, sibling_of, no_sibling_of, parent_of, no_parent_of, ideal_of, paired, parented, ideal, ideal_under, no, refusals_of};
 
 /// Small sessions whose replies can be followed by hand. The call does nothing.
-#[tactic(auto, unfolding(crate::specs::Step::step, crate::specs::Step::admitted, crate::specs::Changing::needs, crate::specs::Changing::is_idle, crate::specs::Changing::effect, crate::specs::Changing::answer_to, crate::specs::Asking::query_needs, crate::specs::Asking::answer, crate::specs::Jobs::worked_out, crate::specs::Jobs::tended, file_records::specs::Searching::queue_of, file_records::specs::Searching::searched, file_records::specs::Searching::rising, file_records::specs::Near::near_at, spare_tables::specs::Pairs::pairs_below, potential_pairs::specs::Potential::potential_at, potential_pairs::specs::Pages::page_of, relation_groups::specs::Relations::relations_at, sibling_chains::specs::Recorded::ideal))]
+#[tactic(auto, unfolding(crate::specs::Step::step, crate::specs::Step::admitted, crate::specs::Changing::needs, crate::specs::Changing::is_idle, crate::specs::Effects::effect, crate::specs::Changing::answer_to, crate::specs::Asking::query_needs, crate::specs::Asking::answer, crate::specs::Jobs::worked_out, crate::specs::Jobs::tended, file_records::specs::Searching::queue_of, file_records::specs::Searching::searched, file_records::specs::Searching::rising, file_records::specs::Near::near_at, spare_tables::specs::Pairs::pairs_below, potential_pairs::specs::Potential::potential_at, potential_pairs::specs::Pages::page_of, relation_groups::specs::Relations::relations_at, sibling_chains::specs::Recorded::ideal, parent_closure::specs::Ancestors::ancestors, parent_closure::specs::Ancestors::implies))]
 pub fn worked_rows()
     // Each command's, in the order of their tests.
     ensures refusals_in_order { map refusals_of (import_of 10 ∷ delete_of 0 ∷ undelete_of 0 ∷ better_than 0 1 ∷ undo_of 0 ∷ distance_of 8 ∷ search_of (0 ∷ []) 8 ∷ [])
         ≡ (FullFiles ∷ []) ∷ (UnknownFile ∷ []) ∷ (UnknownFile ∷ []) ∷ (UnknownFile ∷ UnknownFile ∷ SameFile ∷ FullDecisions ∷ [])
         ∷ (UnknownDecision ∷ AlreadyUndone ∷ []) ∷ [] ∷ (UnknownFile ∷ FullNear ∷ []) ∷ [] }
     ensures tag_refusals_in_order { map refusals_of (add_service ∷ orders_of 1 (0 ∷ []) [] ∷ map_of (codes "a") 0 Current ∷ unmap_of (codes "a") 0 ∷ mappings_of 0 0 ∷ [])
-        ≡ (FullServices ∷ []) ∷ (UnknownService ∷ []) ∷ (UnknownFile ∷ UnknownService ∷ FullTags ∷ FullMappings ∷ [])
+        ≡ (FullServices ∷ []) ∷ (UnknownService ∷ TooManyImplied (record { 0 = 0 }) [] ∷ []) ∷ (UnknownFile ∷ UnknownService ∷ FullTags ∷ FullMappings ∷ [])
         ∷ (UnknownFile ∷ UnknownService ∷ UnknownTag ∷ []) ∷ (UnknownFile ∷ UnknownService ∷ []) ∷ [] }
     ensures sibling_refusals_in_order { map refusals_of (sibling_of 0 (codes "a") (codes "b") ∷ no_sibling_of 0 (codes "a") (codes "b") ∷ ideal_of 0 (codes "a") ∷ [])
-        ≡ (UnknownService ∷ PairKnown [] ∷ FullTags ∷ FullRelations ∷ []) ∷ (UnknownService ∷ UnknownTag ∷ UnknownTag ∷ UnknownPair ∷ [])
+        ≡ (UnknownService ∷ PairKnown [] ∷ FullTags ∷ TooManyImplied (record { 0 = 0 }) [] ∷ FullRelations ∷ [])
+        ∷ (UnknownService ∷ UnknownTag ∷ UnknownTag ∷ UnknownPair ∷ TooManyImplied (record { 0 = 0 }) [] ∷ [])
         ∷ (UnknownService ∷ UnknownTag ∷ []) ∷ [] }
+    ensures parent_refusals_in_order { map refusals_of (parent_of 0 (codes "a") (codes "b") ∷ no_parent_of 0 (codes "a") (codes "b") ∷ [])
+        ≡ (UnknownService ∷ PairKnown (codes "b") ∷ FullTags ∷ TooManyImplied (record { 0 = 0 }) [] ∷ FullRelations ∷ [])
+        ∷ (UnknownService ∷ UnknownTag ∷ UnknownTag ∷ UnknownPair ∷ TooManyImplied (record { 0 = 0 }) [] ∷ []) ∷ [] }
     ensures questions_in_order { map refusals_of (relations_of 0 ∷ decision_of 0 ∷ pairs_from 10 16 ∷ count_within 8 ∷ queues ∷ [])
         ≡ (UnknownFile ∷ []) ∷ (UnknownDecision ∷ []) ∷ [] ∷ [] ∷ [] ∷ [] }
 
@@ -156,6 +160,22 @@ pub fn worked_rows()
         ≡ paired 0 1 ∷ no (PairKnown (codes "b")) ∷ no UnknownTag ∷ no UnknownPair
         ∷ changed true ∷ no UnknownPair ∷ paired 0 2
         ∷ paired 1 1 ∷ ideal (codes "b") ∷ no UnknownService ∷ [] }
+
+    // Pairs are read between ideal tags: z stands for x. Loops are harmless.
+    ensures a_loop_of_parents { replies nothing
+        (parent_of 0 (codes "x") (codes "y") ∷ parent_of 0 (codes "y") (codes "x") ∷ sibling_of 0 (codes "z") (codes "x")
+        ∷ ideal_of 0 (codes "z") ∷ ideal_of 0 (codes "y") ∷ parent_of 0 (codes "y") (codes "x") ∷ no_parent_of 0 (codes "x") (codes "y")
+        ∷ ideal_of 0 (codes "z") ∷ ideal_of 0 (codes "y") ∷ no_parent_of 0 (codes "x") (codes "y") ∷ [])
+        ≡ parented 0 1 ∷ parented 1 0 ∷ paired 2 0
+        ∷ ideal_under (codes "x") (codes "y" ∷ []) ∷ ideal_under (codes "y") (codes "x" ∷ []) ∷ no (PairKnown (codes "x")) ∷ changed true
+        ∷ ideal (codes "x") ∷ ideal_under (codes "y") (codes "x" ∷ []) ∷ no UnknownPair ∷ [] }
+
+    // A service takes the parent pairs of the services of its parent list alone.
+    ensures parents_of_another_service { replies nothing
+        (add_service ∷ parent_of 1 (codes "a") (codes "b") ∷ ideal_of 0 (codes "a") ∷ orders_of 0 (0 ∷ []) (0 ∷ 1 ∷ []) ∷ ideal_of 0 (codes "a") ∷ ideal_of 1 (codes "a")
+        ∷ orders_of 0 (0 ∷ []) (0 ∷ []) ∷ ideal_of 0 (codes "a") ∷ [])
+        ≡ served 1 ∷ parented 0 1 ∷ ideal (codes "a") ∷ served 0 ∷ ideal_under (codes "a") (codes "b" ∷ []) ∷ ideal_under (codes "a") (codes "b" ∷ [])
+        ∷ served 0 ∷ ideal (codes "a") ∷ [] }
     ensures all_bits_differ { replies_behind
         (import_with 10 (0 ∷ []) ∷ import_with 11 (0xffffffffffffffff ∷ []) ∷ distance_of 16 ∷ [])
         (search_next 2 ∷ pairs_from 10 16 ∷ [])

@@ -7,7 +7,8 @@ use Rattle.potential_pairs.specs.Pages.{page_of}
 use Rattle.potential_pairs.specs.Potential.{potential_at}
 use Rattle.relation_groups.specs.Relations.{relations_at}
 use Rattle.library_machine.specs.Asking.{answer, query_needs}
-use Rattle.library_machine.specs.Changing.{answer_to, effect, is_idle, needs}
+use Rattle.library_machine.specs.Changing.{answer_to, is_idle, needs}
+use Rattle.library_machine.specs.Effects.{effect}
 use Rattle.library_machine.specs.Jobs.{worked_out}
 use Rattle.library_machine.specs.Step.{admitted, step}
 use Rattle.library_machine.proofs.FarApart.{far_apart}
