@@ -14,7 +14,8 @@ use Rattle.media_base.specs.declared.reply.Answer.{Answer}
 use Rattle.media_base.specs.Keeping.{with_change}
 use Rattle.media_base.specs.Replying.{Reply}
 use Rattle.vp_tree.specs.Marking.{MarkedTree}
-use Rattle.library_machine.specs.Changing.{does, effect, answer_to}
+use Rattle.library_machine.specs.Changing.{does, answer_to}
+use Rattle.library_machine.specs.Effects.{effect}
 use Rattle.library_machine.specs.Desks.{no_desks}
 use Rattle.library_machine.specs.Opening.{kept_with}
 use Rattle.library_machine.specs.Records.{Records}

@@ -67,7 +67,7 @@ import_in_step t plan after step leads files book groups tree work number rows w
       noted_is ∙ ap (noted number plan.queued) step.queued ∙ queue_with t.distance plan.file.row t.files.rows plan.queued number leads.told is
       ∙ ap (queue_of t.distance) (sym rows);
   ordered = step.ordered;
-  untied = step.untied;
+  parents_ordered = step.parents_ordered;
 }
 
 -- without files there are no words, none is near, and none waits

@@ -20,7 +20,8 @@ use Rattle.relation_groups.specs.Reading.{Kept, IsPlanFor, Planned, relations_af
 use Rattle.relation_groups.specs.SoundLaws.{relations-sound}
 use Rattle.relation_groups.specs.Relations.{by_code, decided, relations, relations_at, standing_of}
 use Rattle.library_machine.specs.Asking.{asked, answer, query_needs}
-use Rattle.library_machine.specs.Changing.{answer_to, does, effect, is_idle, needs}
+use Rattle.library_machine.specs.Changing.{answer_to, does, is_idle, needs}
+use Rattle.library_machine.specs.Effects.{effect}
 use Rattle.library_machine.specs.GoodLaws.{changes_keep_fit}
 use Rattle.library_machine.specs.Needs.{has_file}
 use Rattle.library_machine.specs.Records.{Records, Fits}

@@ -12,7 +12,8 @@ use Rattle.file_records.specs.Rows.{row_of}
 use Rattle.file_records.specs.Searching.{is_queued}
 use Rattle.file_records.specs.Words.{new_words, words_of}
 use Rattle.file_records.specs.declared.file_row.FileRow.{FileRow}
-use Rattle.library_machine.specs.Changing.{answer_to, does, effect, is_idle, needs}
+use Rattle.library_machine.specs.Changing.{answer_to, does, is_idle, needs}
+use Rattle.library_machine.specs.Effects.{effect}
 use Rattle.library_machine.specs.GoodLaws.{changes_keep_fit}
 use Rattle.library_machine.specs.Records.{Records, Fits}
 use Rattle.library_tables.specs.declared.imports.PlannedImport.{PlannedImport}

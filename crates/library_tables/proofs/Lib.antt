@@ -11,4 +11,9 @@ pub mod Rising
 pub mod Telling
 pub mod TreeMarks
 pub mod Pairing
-pub mod Related
+pub mod Guarding
+pub mod Reading
+pub mod Settling
+pub mod Implying
+pub mod ParentChanges
+pub mod SiblingChanges

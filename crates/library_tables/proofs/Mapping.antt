@@ -1,6 +1,9 @@
 -- What is prepared for services and mappings is what the changes come to.
-use Rattle.std.proofs.Common.{◌≡◌, ◌<◌, ◌≤◌, ◌||◌, slice_set, inl, inr, ℕ, Bool, true, false, not, nat_lt, Some, None, Ok, Err, Option, is_some, [], ◌∷◌, List, length, refl, ap, sym, ◌∙◌}
+use Rattle.std.proofs.Common.{◌≡◌, ◌<◌, ◌≤◌, ◌||◌, slice_set, inl, inr, ℕ, zero, suc, ◌&&◌, slice_get, Bool, true, false, not, nat_lt, Some, None, Ok, Err, Option, is_some, [], ◌∷◌, List, length, refl, ap, sym, ◌∙◌}
 use Rattle.std.specs.List.{list_all}
+use Rattle.std.specs.Option.{option_map_or}
+use Rattle.std.proofs.lemmas.List.{length-set, map-set}
+use Rattle.media_base.specs.declared.refusal.Unmet.{Unmet}
 use Rattle.std.proofs.lemmas.Bool.{and_parts, ltb-true, both_ways}
 use Rattle.media_types.specs.declared.numbers.ServiceNo.{ServiceNo}
 use Rattle.media_base.specs.declared.change.Change.TheVariants as changes
@@ -10,22 +13,26 @@ use Rattle.media_base.specs.declared.reply.Answer.TheVariants as answers
 use Rattle.tag_types.specs.declared.limits.TheConstants.{MAX_SERVICES, MAX_TAGS}
 use Rattle.tag_types.specs.declared.map_state.MapState.{MapState}
 use Rattle.tag_types.specs.declared.orders.Orders.{Orders}
-use Rattle.sibling_chains.specs.Planning.{IsPlanFor}
-use Rattle.sibling_chains.specs.Planning.{after as siblings_after}
-use Rattle.sibling_chains.specs.declared.sibling_plan.SiblingPlan.{SiblingPlan}
+use Rattle.tag_types.specs.Equality.{same_services, same_services-Decides}
+use Rattle.tag_relations.specs.declared.plans.OrderPlan.{OrderPlan}
+use Rattle.tag_relations.specs.Planning.{IsOrderPlanFor, after_orders}
 use Rattle.tag_store.specs.Numbering.{HasPlaceFor, is_tag, number_of}
 use Rattle.tag_store.specs.NumberingLaws.{is_numbered, numbered_there, tagged}
-use Rattle.library_machine.specs.Changing.{answer_to, does, effect, is_idle, mapping_needs, needs}
+use Rattle.library_machine.specs.Changing.{answer_to, does, is_idle, mapping_needs, needs}
+use Rattle.library_machine.specs.Effects.{effect}
 use Rattle.library_machine.specs.Guards.{guarded}
 use Rattle.library_machine.specs.GoodLaws.{changes_keep_fit}
-use Rattle.library_machine.specs.Needs.{Need, has_file, has_service, has_tag, is_met, room_for_mapping, room_for_tag, tag_there, unmet}
-use Rattle.library_machine.specs.Records.{Records, Fits}
-use Rattle.library_machine.specs.Tagging.{has_orders, is_mapped_so, mapping_told, numbered, services_named}
+use Rattle.library_machine.specs.Needs.{Need, has_file, has_service, has_tag, is_met, few_implied, room_for_mapping, room_for_tag, services_there, tag_there, unmet}
+use Rattle.library_machine.specs.Records.{Records, Fits, too_many}
+use Rattle.library_machine.specs.Tagging.{has_orders, is_mapped_so, mapping_told, numbered, services_named, with_orders}
 use Rattle.library_tables.specs.declared.plan.Prepared.TheVariants as prepared
 use Rattle.library_tables.specs.declared.plan.TablesPlan.TheVariants as plans
 use Rattle.library_tables.specs.declared.tags.PlannedMapping.{PlannedMapping}
 use Rattle.library_tables.specs.Preparing.{IsPrepared}
-use Rattle.library_tables.specs.Tables.{TablesView, records_of}
+use Rattle.library_tables.specs.Relations.{IsOrdered, over_told}
+use Rattle.library_tables.specs.Tables.{AreInStep, TablesView, records_of}
+use Rattle.library_tables.proofs.Guarding.{done_by, over_none, over_some, refused_at}
+use Rattle.library_tables.proofs.Pairing.{relations_same}
 use Rattle.library_tables.specs.Tags.{IsReady}
 
 -- ---- services
@@ -38,48 +45,102 @@ pub service_full : (r : Records) → nat_lt (length r.services) MAX_SERVICES ≡
 unfolding needs is_idle
 service_full r full = rw full refl
 
-pub service_prepared : (t : TablesView) (count : ℕ) → 1 ≤ t.siblings.service_room → Fits (records_of t) → nat_lt (length t.services) MAX_SERVICES ≡ true → count ≡ length t.services →
+pub service_prepared : (t : TablesView) (count : ℕ) → 1 ≤ t.relations.siblings.service_room → 1 ≤ t.relations.parents.service_room → Fits (records_of t) → nat_lt (length t.services) MAX_SERVICES ≡ true → count ≡ length t.services →
     IsPrepared changes.Service t (prepared.Ready plans.Service (answers.Service (record { 0 = count })))
 unfolding effect answer_to
-service_prepared t count spare fits room is =
+service_prepared t count spare parent_spare fits room is =
     let done = service_does (records_of t) room in (
       done,
       ap (λ (n : ℕ). answers.Service (record { 0 = n })) (sym is),
-      record { few = ltb-true _ _ room; room = spare; fits = changes_keep_fit (records_of t) changes.Service done fits; leads = refl },
+      record { few = ltb-true _ _ room; sibling_room = spare; parent_room = parent_spare; fits = changes_keep_fit (records_of t) changes.Service done fits; leads = refl },
       refl,
     )
 
 -- ---- orders
 
-orders_does : (r : Records) (service : ServiceNo) (orders : Orders) → list_all (has_service r) (services_named service orders) ≡ true →
-    does r (changes.Orders service orders) ≡ Ok (has_orders r service orders)
-unfolding needs is_idle
-orders_does r service orders there = rw there refl
-
 pub orders_unknown : (r : Records) (service : ServiceNo) (orders : Orders) → list_all (has_service r) (services_named service orders) ≡ false →
     does r (changes.Orders service orders) ≡ Err whys.UnknownService
 unfolding needs
-orders_unknown r service orders there = rw there refl
+orders_unknown r service orders there = refused_at r (changes.Orders service orders) [] (services_there (services_named service orders)) (few_implied (changes.Orders service orders) ∷ []) refl tt there
 
 -- the service of the orders is there
 pub service_known : (r : Records) (service : ServiceNo) (orders : Orders) → list_all (has_service r) (services_named service orders) ≡ true → service.0 < length r.services
 service_known r service orders there = ltb-true _ _ ((and_parts (has_service r service) _ there).0)
 
-pub orders_idle : (t : TablesView) (service : ServiceNo) (orders : Orders) → list_all (has_service (records_of t)) (services_named service orders) ≡ true →
-    has_orders (records_of t) service orders ≡ true → IsPrepared (changes.Orders service orders) t (prepared.Idle (answers.Service service))
-unfolding answer_to
-orders_idle t service orders there same = (orders_does (records_of t) service orders there ∙ ap Ok same, refl)
+-- what is set to what stands there stays
+set_same : {A : Type 0} (xs : List A) (k : ℕ) (x : A) → slice_get xs k ≡ Some x → slice_set xs k x ≡ xs
+set_same [] k x is = refl
+set_same (y ∷ xs) zero x is = let same : y ≡ x = cc is in ap (λ z. z ∷ xs) (sym same)
+set_same (y ∷ xs) (suc k) x is = ap (λ l. y ∷ l) (set_same xs k x is)
 
-pub orders_prepared : (t : TablesView) (service : ServiceNo) (orders : Orders) (siblings : SiblingPlan) → IsPlanFor siblings t.siblings →
-    siblings_after siblings t.siblings ≡ record t.siblings { orders = slice_set t.siblings.orders service.0 orders.siblings } → Fits (records_of t) →
+-- orders that a service has already leave the records as they are
+same_orders : (r : Records) (service : ServiceNo) (orders : Orders) → has_orders r service orders ≡ true → with_orders r service orders ≡ r
+same_orders r service orders has = by (slice_get r.services service.0) refl has
+  where
+    by : (found : Option Orders) → slice_get r.services service.0 ≡ found
+        → option_map_or (λ now. same_services now.siblings orders.siblings && same_services now.parents orders.parents) found false ≡ true → with_orders r service orders ≡ r
+    by None is e = absurd (cc e)
+    by (Some now) is e =
+        let parts = and_parts (same_services now.siblings orders.siblings) (same_services now.parents orders.parents) e in
+        let siblings = (same_services-Decides now.siblings orders.siblings).0 parts.0 in
+        let parents = (same_services-Decides now.parents orders.parents).0 parts.1 in
+        let one : now ≡ orders = λ i. record { siblings = siblings i; parents = parents i } in
+        ap (λ (services : List Orders). record r { services = services }) (set_same r.services service.0 orders (is ∙ ap Some one))
+
+pub orders_idle : (t : TablesView) (service : ServiceNo) (orders : Orders) → Fits (records_of t) → list_all (has_service (records_of t)) (services_named service orders) ≡ true →
+    has_orders (records_of t) service orders ≡ true → IsPrepared (changes.Orders service orders) t (prepared.Idle (answers.Service service))
+unfolding needs is_idle effect answer_to
+orders_idle t service orders fits there same =
+    let few : not (is_some (too_many (with_orders (records_of t) service orders))) ≡ true =
+    ap (λ (r : Records). not (is_some (too_many r))) (same_orders (records_of t) service orders same) ∙ ap (λ (found : Option (ℕ × ℕ)). not (is_some found)) fits.few_implied in
+    (done_by (records_of t) (changes.Orders service orders) true (there, (few, tt)) same, refl)
+
+-- the records after other orders, as a plan has them
+pub ordered_after : (t : TablesView) (service : ServiceNo) (orders : Orders) (plan : OrderPlan) → AreInStep t → IsOrderPlanFor plan t.relations → plan.service ≡ service
+    → (after_orders plan t.relations).siblings.orders ≡ slice_set t.relations.siblings.orders service.0 orders.siblings
+    → (after_orders plan t.relations).parents.orders ≡ slice_set t.relations.parents.orders service.0 orders.parents → IsOrdered plan t (with_orders (records_of t) service orders)
+ordered_after t service orders plan step planned is siblings parents = record {
+  tags = refl;
+  siblings = refl;
+  parents = refl;
+  count = length-set t.services service.0 orders;
+  relations = λ s.
+      sym (relations_same (after_orders plan t.relations) (with_orders (records_of t) service orders)
+      (siblings ∙ ap (λ (lists : List (List ServiceNo)). slice_set lists service.0 orders.siblings) step.ordered ∙ sym (map-set (λ (orders : Orders). orders.siblings) t.services service.0 orders))
+      (parents ∙ ap (λ (lists : List (List ServiceNo)). slice_set lists service.0 orders.parents) step.parents_ordered ∙ sym (map-set (λ (orders : Orders). orders.parents) t.services service.0 orders))
+      planned.sibling_rows planned.parent_rows s);
+  others = λ s differs.
+      let other : slice_get (slice_set t.services service.0 orders) s ≡ slice_get t.services s = set_other t.services service.0 s orders (λ same. differs (same ∙ ap (λ (n : ServiceNo). n.0) (sym is))) in
+      ap (λ (found : Option Orders). record { sibling_order = option_map_or (λ orders. orders.siblings) found []; parent_order = option_map_or (λ orders. orders.parents) found []; siblings = t.relations.siblings.rows; parents = t.relations.parents.rows }) other;
+}
+  where
+    set_other : (xs : List Orders) (k s : ℕ) (x : Orders) → (s ≡ k → ⊥) → slice_get (slice_set xs k x) s ≡ slice_get xs s
+    set_other [] k s x differs = refl
+    set_other (y ∷ xs) zero zero x differs = absurd (differs refl)
+    set_other (y ∷ xs) zero (suc s) x differs = refl
+    set_other (y ∷ xs) (suc k) zero x differs = refl
+    set_other (y ∷ xs) (suc k) (suc s) x differs = set_other xs k s x (λ same. differs (ap suc same))
+
+pub orders_over : (t : TablesView) (service : ServiceNo) (orders : Orders) (why : Unmet) → list_all (has_service (records_of t)) (services_named service orders) ≡ true
+    → over_told (with_orders (records_of t) service orders) ≡ Some why → does (records_of t) (changes.Orders service orders) ≡ Err why
+unfolding needs effect
+orders_over t service orders why there told =
+    let over = over_some (with_orders (records_of t) service orders) why told in
+    refused_at (records_of t) (changes.Orders service orders) (services_there (services_named service orders) ∷ []) (few_implied (changes.Orders service orders)) [] refl (there, tt) over.0
+    ∙ ap Err over.1
+
+pub orders_prepared : (t : TablesView) (service : ServiceNo) (orders : Orders) (plan : OrderPlan) → IsOrderPlanFor plan t.relations →
+    (after_orders plan t.relations).siblings.orders ≡ slice_set t.relations.siblings.orders service.0 orders.siblings →
+    (after_orders plan t.relations).parents.orders ≡ slice_set t.relations.parents.orders service.0 orders.parents → Fits (records_of t) →
     list_all (has_service (records_of t)) (services_named service orders) ≡ true → service.0 < length t.services → has_orders (records_of t) service orders ≡ false →
-    IsPrepared (changes.Orders service orders) t (prepared.Ready (plans.Orders (record { service = service; orders = orders; siblings = siblings })) (answers.Service service))
-unfolding effect answer_to
-orders_prepared t service orders siblings planned chains fits there known other =
-    let done = orders_does (records_of t) service orders there ∙ ap Ok other in (
+    over_told (with_orders (records_of t) service orders) ≡ None →
+    IsPrepared (changes.Orders service orders) t (prepared.Ready (plans.Orders (record { service = service; orders = orders; relations = plan })) (answers.Service service))
+unfolding needs is_idle effect answer_to
+orders_prepared t service orders plan planned siblings parents fits there known other none =
+    let done = done_by (records_of t) (changes.Orders service orders) false (there, (over_none (with_orders (records_of t) service orders) none, tt)) other in (
       done,
       refl,
-      record { known = known; planned = planned; chains = chains; fits = changes_keep_fit (records_of t) (changes.Orders service orders) done fits; leads = refl },
+      record { known = known; planned = planned; siblings = siblings; parents = parents; fits = changes_keep_fit (records_of t) (changes.Orders service orders) done fits; leads = refl },
       refl,
     )
 

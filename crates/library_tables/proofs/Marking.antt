@@ -15,7 +15,8 @@ use Rattle.relation_groups.specs.Relations.{Relations}
 use Rattle.potential_pairs.specs.Planning.{PlanView, room_of, with_live}
 use Rattle.potential_pairs.specs.Planning.{after as pairs_after}
 use Rattle.potential_pairs.specs.Potential.{AreOf, KeptPairs}
-use Rattle.library_machine.specs.Changing.{answer_to, does, effect, is_idle, is_marked, needs}
+use Rattle.library_machine.specs.Changing.{answer_to, does, is_idle, is_marked, needs}
+use Rattle.library_machine.specs.Effects.{effect}
 use Rattle.library_machine.specs.GoodLaws.{changes_keep_fit}
 use Rattle.library_machine.specs.Needs.{has_file}
 use Rattle.library_machine.specs.Records.{Records, Fits}

@@ -15,7 +15,8 @@ use Rattle.file_records.specs.Searching.{queue_of, rising, searched}
 use Rattle.relation_groups.specs.Reading.{relations_in}
 use Rattle.potential_pairs.specs.Planning.{PlanView}
 use Rattle.potential_pairs.specs.Planning.{after as pairs_after}
-use Rattle.library_machine.specs.Changing.{answer_to, does, effect, is_idle, needs}
+use Rattle.library_machine.specs.Changing.{answer_to, does, is_idle, needs}
+use Rattle.library_machine.specs.Effects.{effect}
 use Rattle.library_machine.specs.GoodLaws.{changes_keep_fit}
 use Rattle.library_machine.specs.Needs.{has_file}
 use Rattle.library_machine.specs.Records.{Records, Fits}

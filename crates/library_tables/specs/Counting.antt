@@ -1,5 +1,5 @@
 -- How much is read at most through tables that count, where that is bounded.
-use Rattle.std.specs.Prelude.{◌≤◌, ◌+◌, ◌*◌, ℕ, List, [], length, filter, Option, Some, None, IfSome, IsSomeAnd}
+use Rattle.std.specs.Prelude.{◌≤◌, ◌+◌, ◌*◌, ℕ, List, length, filter, Option, Some, None, IfSome, IsSomeAnd}
 use Rattle.media_types.specs.declared.numbers.FileNo.{FileNo}
 use Rattle.media_types.specs.declared.numbers.ServiceNo.{ServiceNo}
 use Rattle.media_types.specs.declared.searching.Searching.{Searching}
@@ -15,14 +15,13 @@ use Rattle.file_records.specs.Near.{near_pairs}
 use Rattle.potential_pairs.specs.Planning.{has_file}
 use Rattle.vp_tree.specs.declared.node.NodeView.{NodeView}
 use Rattle.near_search.specs.Work.{work}
-use Rattle.media_base.specs.declared.reply.SiblingTags.{SiblingTags}
-use Rattle.sibling_chains.specs.Clustered.{is_of_two}
-use Rattle.sibling_chains.specs.Clusters.{rows_within}
-use Rattle.std.specs.List.{range_with_len}
+use Rattle.media_base.specs.declared.reply.PairTags.{PairTags}
+use Rattle.tag_relations.specs.Work.{cluster_work}
 use Rattle.tag_store.specs.Mapped.{tags_of_file}
 use Rattle.library_machine.specs.Jobs.{Deed, tells, makes, worked_out}
 use Rattle.library_machine.specs.Records.{Records}
-use Rattle.library_machine.specs.Relating.{pair_tags, with_sibling, without_sibling}
+use Rattle.library_machine.specs.Relating.{pair_tags, with_parent, with_sibling, without_parent, without_sibling}
+use Rattle.library_machine.specs.Tagging.{numbered}
 use Rattle.library_machine.specs.Searches.{next_search, risen}
 
 -- what a search meets: its files, and what is met for the hashes of those whose searched distance rises
@@ -38,26 +37,25 @@ live_reads r file = 8 * (2 + length (filter (λ row. has_file file.0 row.0) (nea
 abbrev pub mappings_reads : Records → ServiceNo → FileNo → ℕ
 mappings_reads r service file = 2 + length (tags_of_file r.mappings service.0 file.0)
 
--- how many tags the clusters of two tags have together, and how many rows, over all pairs ever recorded
-abbrev pub pair_tags_count : Records → SiblingTags → ℕ
-pair_tags_count r pair = length (filter (is_of_two r.siblings [] pair.bad.0 pair.good.0) (range_with_len 0 (length r.tags)))
+-- the work on the clusters of a pair's two tags: how many tags they have together, and how many rows of both kinds,
+-- over all pairs ever recorded
+abbrev pub pair_work : Records → PairTags → ℕ
+pair_work r pair = cluster_work r.siblings r.parents (length r.tags) pair.first.0 pair.second.0
 
-abbrev pub pair_rows_count : Records → SiblingTags → ℕ
-pair_rows_count r pair = length (rows_within (is_of_two r.siblings [] pair.bad.0 pair.good.0) r.siblings)
-
-abbrev pub pair_work : Records → SiblingTags → ℕ
-pair_work r pair = (1 + pair_rows_count r pair) * (1 + pair_tags_count r pair)
-
--- A bound on what a change of a pair reads, by the records that it leaves.
-unfoldable pub relation_reads : Records → SiblingTags → ℕ
+-- A bound on what a change of a pair reads, by the records that it leaves, or would leave.
+unfoldable pub relation_reads : Records → PairTags → ℕ
 relation_reads r pair = 512 * pair_work r pair
 
--- a decision is one row; for a page of n pairs the heads of 17 distances, and two for each pair; ideal tags are kept
+-- four for each of the tag's cluster
+abbrev pub ideal_reads : Records → ServiceNo → List ℕ → ℕ
+ideal_reads r service text = 4 * cluster_work r.siblings r.parents (length r.tags) (numbered r text).0 (numbered r text).0
+
+-- a decision is one row; for a page of n pairs the heads of 17 distances, and two for each pair
 abbrev pub query_reads : Records → Query → Option ℕ
 query_reads r (queries.Decision n) = Some 1
 query_reads r (queries.Pairs page) = Some (2 * page.n + 17)
 query_reads r (queries.Mappings service file) = Some (mappings_reads r service file)
-query_reads r (queries.Ideal service tag) = Some 0
+query_reads r (queries.Ideal service text) = Some (ideal_reads r service text)
 query_reads r query = None
 
 abbrev pub change_reads : Records → List NodeView → Change → Option ℕ
@@ -66,6 +64,8 @@ change_reads r tree (changes.Searched s) = Some (32 * (1 + search_meets r tree s
 change_reads r tree (changes.Mapping mapping) = Some 1
 change_reads r tree (changes.SiblingAdded pair) = Some (relation_reads (with_sibling r pair) (pair_tags r pair))
 change_reads r tree (changes.SiblingRemoved pair) = Some (relation_reads (without_sibling r pair) (pair_tags r pair))
+change_reads r tree (changes.ParentAdded pair) = Some (relation_reads (with_parent r pair) (pair_tags r pair))
+change_reads r tree (changes.ParentRemoved pair) = Some (relation_reads (without_parent r pair) (pair_tags r pair))
 change_reads r tree change = None
 
 -- until the change is worked out

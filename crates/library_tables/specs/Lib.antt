@@ -4,8 +4,8 @@ pub mod Deletion
 pub mod Imports
 pub mod Pairs
 pub mod Preparing
+pub mod Relations
 pub mod Searches
-pub mod Siblings
 pub mod Tables
 pub mod Tags
 pub use Rattle.library_machine.specs.Asking

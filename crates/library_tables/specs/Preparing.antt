@@ -1,14 +1,18 @@
 -- What is prepared for a change, and what a job works out.
-use Rattle.std.specs.Prelude.{◌≡◌, true, false, List, [], Ok, Err}
+use Rattle.std.specs.Prelude.{◌≡◌, Bool, true, false, List, [], Ok, Err, Option, Some, None}
 use Rattle.media_types.specs.declared.hash.Hash64.{Hash64}
 use Rattle.media_base.specs.declared.change.Change.{Change}
 use Rattle.media_base.specs.declared.change.Change.TheVariants as changes
 use Rattle.media_base.specs.declared.command.Job.{Job}
 use Rattle.media_base.specs.declared.command.Upkeep.{Upkeep}
 use Rattle.media_base.specs.declared.command.Upkeep.TheVariants as upkeeps
+use Rattle.media_base.specs.declared.refusal.Unmet.{Unmet}
+use Rattle.media_base.specs.declared.refusal.Unmet.TheVariants as whys
+use Rattle.media_base.specs.declared.reply.Answer.{Answer}
 use Rattle.file_records.specs.Words.{new_words, words_of}
 use Rattle.vp_tree.specs.Marking.{IsRebalanced, MarkedTree}
-use Rattle.library_machine.specs.Changing.{answer_to, does, effect}
+use Rattle.library_machine.specs.Changing.{answer_to, does}
+use Rattle.library_machine.specs.Effects.{effect}
 use Rattle.library_machine.specs.Jobs.{makes, tells, worked_out}
 use Rattle.library_machine.specs.Records.{Records}
 use Rattle.library_tables.specs.declared.plan.Deed.{Deed}
@@ -17,11 +21,12 @@ use Rattle.library_tables.specs.declared.plan.Prepared.{Prepared}
 use Rattle.library_tables.specs.declared.plan.Prepared.TheVariants as prepared
 use Rattle.library_tables.specs.declared.plan.TablesPlan.{TablesPlan}
 use Rattle.library_tables.specs.declared.plan.TablesPlan.TheVariants as plans
+use Rattle.library_tables.specs.declared.tag_pairs.PlannedPair.{PlannedPair}
 use Rattle.library_tables.specs.Decisions.{LeadsDecide, LeadsUndo}
 use Rattle.library_tables.specs.Deletion.{LeadsLive}
 use Rattle.library_tables.specs.Imports.{LeadsImport, words_planned}
 use Rattle.library_tables.specs.Searches.{LeadsDistance, LeadsSearch}
-use Rattle.library_tables.specs.Siblings.{LeadsRemoval, LeadsSibling}
+use Rattle.library_tables.specs.Relations.{LeadsPair}
 use Rattle.library_tables.specs.Tables.{TablesView, records_of}
 use Rattle.library_tables.specs.Tags.{LeadsMapping, LeadsOrders, LeadsService}
 
@@ -36,8 +41,7 @@ Leads (plans.Search plan) t after = LeadsSearch plan t after
 Leads plans.Service t after = LeadsService t after
 Leads (plans.Orders plan) t after = LeadsOrders plan t after
 Leads (plans.Mapping plan) t after = LeadsMapping plan t after
-Leads (plans.SiblingAdded plan) t after = LeadsSibling plan t after
-Leads (plans.SiblingRemoved plan) t after = LeadsRemoval plan t after
+Leads (plans.Pair plan) t after = LeadsPair plan t after
 
 -- the words that a plan places in the tree: an import its new ones, all other plans none
 abbrev pub words_placed : TablesPlan → List Hash64
@@ -48,6 +52,12 @@ words_placed plan = []
 abbrev pub words_brought : Records → Change → List Hash64
 words_brought r (changes.File file) = new_words (words_of r.files) file.hashes
 words_brought r change = []
+
+-- what comes of a planned pair: it is refused where a tag would imply too many, and where the rows are full
+abbrev pub pair_outcome : Option Unmet → Bool → PlannedPair → Answer → Prepared
+pair_outcome (Some why) full plan answer = prepared.Refused why
+pair_outcome None true plan answer = prepared.Refused whys.FullRelations
+pair_outcome None false plan answer = prepared.Ready (plans.Pair plan) answer
 
 -- what was prepared is what the change comes to, from these tables on
 abbrev pub IsPrepared : Change → TablesView → Prepared → Type 0

@@ -1,5 +1,5 @@
 -- The tables of a library: what they record, and what keeps them in step.
-use Rattle.std.specs.Prelude.{◌≡◌, ℕ, List, [], length, map}
+use Rattle.std.specs.Prelude.{◌≡◌, ℕ, List, length, map}
 use Rattle.spare_tables.specs.Table.{Table}
 use Rattle.file_records.specs.Near.{near_pairs}
 use Rattle.file_records.specs.Living.{deleted}
@@ -18,7 +18,7 @@ use Rattle.vp_tree.specs.Nodes.{words_in}
 use Rattle.tree_upkeep.specs.Marks.{AreNodes}
 use Rattle.tree_upkeep.specs.Queue.{Work}
 use Rattle.media_types.specs.declared.numbers.ServiceNo.{ServiceNo}
-use Rattle.sibling_chains.specs.Known.{Known}
+use Rattle.tag_relations.specs.Related.{Related}
 use Rattle.tag_types.specs.declared.orders.Orders.{Orders}
 use Rattle.tag_store.specs.Mapped.{Row}
 use Rattle.tag_store.specs.Numbering.{Numbered}
@@ -35,7 +35,7 @@ pub record TablesView : Type 0 where
   pub tags : Numbered
   pub services : List Orders
   pub mappings : Table Row
-  pub siblings : Known
+  pub relations : Related
 
 -- what the tables record
 abbrev pub records_of : TablesView → Records
@@ -46,7 +46,8 @@ records_of t = record {
   tags = t.tags.texts;
   services = t.services;
   mappings = t.mappings.rows;
-  siblings = t.siblings.rows;
+  siblings = t.relations.siblings.rows;
+  parents = t.relations.parents.rows;
 }
 
 -- a tree with the marks of its nodes
@@ -71,10 +72,13 @@ pub record ArePairsOf (R : Relations) (rows : List FileRow) (pairs : PairsView) 
 abbrev pub sibling_orders : List Orders → List (List ServiceNo)
 sibling_orders services = map (λ orders. orders.siblings) services
 
+-- and those whose parent pairs
+abbrev pub parent_orders : List Orders → List (List ServiceNo)
+parent_orders services = map (λ orders. orders.parents) services
+
 -- The tables speak of the same files, and the groups are those that the standing decisions make. The tree
 -- has the hashes of the files, by number, and marks are of its nodes. The pairs are those of the files and
--- groups, and the queue has the files that are to be searched. The ideal tags are those that the services' orders
--- make, and no other pairs tie tags together.
+-- groups, and the queue has the files that are to be searched. Siblings and parents are taken by the services' orders.
 pub record AreInStep (t : TablesView) : Type 0 where
   pub fits : Fits (records_of t)
   pub decided : t.book.files ≡ length t.files.rows
@@ -84,5 +88,5 @@ pub record AreInStep (t : TablesView) : Type 0 where
   pub marked : AreNodes t.tree.rows t.work.marks
   pub paired : ArePairsOf (relations_in t.groups) t.files.rows t.pairs.rows
   pub queued : t.work.queue ≡ queue_of t.distance t.files.rows
-  pub ordered : t.siblings.orders ≡ sibling_orders t.services
-  pub untied : t.siblings.ties ≡ []
+  pub ordered : t.relations.siblings.orders ≡ sibling_orders t.services
+  pub parents_ordered : t.relations.parents.orders ≡ parent_orders t.services

@@ -7,8 +7,7 @@ use Rattle.tag_types.specs.declared.map_state.MapState.{MapState}
 use Rattle.tag_types.specs.declared.map_state.MapState.TheVariants as states
 use Rattle.tag_types.specs.declared.limits.TheConstants.{MAX_SERVICES, MAX_TAGS}
 use Rattle.tag_store.specs.Numbering.{is_tag, number_or_next}
-use Rattle.sibling_chains.specs.Planning.{IsPlanFor}
-use Rattle.sibling_chains.specs.Planning.{after as siblings_after}
+use Rattle.tag_relations.specs.Planning.{IsOrderPlanFor, after_orders}
 use Rattle.library_machine.specs.Records.{Records, Fits}
 use Rattle.library_machine.specs.Tagging.{texts_with, with_mapping, with_orders, with_service}
 use Rattle.library_tables.specs.declared.tags.PlannedMapping.{PlannedMapping}
@@ -18,15 +17,17 @@ use Rattle.library_tables.specs.Tables.{TablesView, records_of}
 -- a service can be added, and then these are the records
 pub record LeadsService (t : TablesView) (after : Records) : Type 0 where
   pub few : length t.services < MAX_SERVICES
-  pub room : 1 ≤ t.siblings.service_room
+  pub sibling_room : 1 ≤ t.relations.siblings.service_room
+  pub parent_room : 1 ≤ t.relations.parents.service_room
   pub fits : Fits after
   pub leads : after ≡ with_service (records_of t)
 
 -- so can these orders be set
 pub record LeadsOrders (plan : PlannedOrders) (t : TablesView) (after : Records) : Type 0 where
   pub known : plan.service.0 < length t.services
-  pub planned : IsPlanFor plan.siblings t.siblings
-  pub chains : siblings_after plan.siblings t.siblings ≡ record t.siblings { orders = slice_set t.siblings.orders plan.service.0 plan.orders.siblings }
+  pub planned : IsOrderPlanFor plan.relations t.relations
+  pub siblings : (after_orders plan.relations t.relations).siblings.orders ≡ slice_set t.relations.siblings.orders plan.service.0 plan.orders.siblings
+  pub parents : (after_orders plan.relations t.relations).parents.orders ≡ slice_set t.relations.parents.orders plan.service.0 plan.orders.parents
   pub fits : Fits after
   pub leads : after ≡ with_orders (records_of t) plan.service plan.orders
 

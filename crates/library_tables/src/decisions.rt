@@ -35,7 +35,7 @@ pub struct PlannedUndo {
 }
 
 impl Tables {
-    #[tactic(auto, using(file_records::specs::NearLaws::below), unfolding(library_machine::specs::Changing::needs, library_machine::specs::Changing::is_idle, library_machine::specs::Changing::effect, library_machine::specs::Changing::answer_to))]
+    #[tactic(auto, using(file_records::specs::NearLaws::below), unfolding(library_machine::specs::Changing::needs, library_machine::specs::Changing::is_idle, library_machine::specs::Effects::effect, library_machine::specs::Changing::answer_to))]
     pub(crate) fn plan_decide<L: Ledger>(
         &mut self,
         decision: Decision,
@@ -75,7 +75,7 @@ impl Tables {
         self.has_file(decision.a) && self.has_file(decision.b)
     }
 
-    #[tactic(auto, using(file_records::specs::NearLaws::below), unfolding(library_machine::specs::Changing::needs, library_machine::specs::Changing::is_idle, library_machine::specs::Changing::effect, library_machine::specs::Changing::answer_to))]
+    #[tactic(auto, using(file_records::specs::NearLaws::below), unfolding(library_machine::specs::Changing::needs, library_machine::specs::Changing::is_idle, library_machine::specs::Effects::effect, library_machine::specs::Changing::answer_to))]
     pub(crate) fn plan_undo<L: Ledger>(
         &mut self,
         number: DecisionNo,

@@ -25,7 +25,7 @@ pub struct PlannedLive {
 }
 
 impl Tables {
-    #[tactic(auto, using(file_records::specs::NearLaws::below), unfolding(library_machine::specs::Changing::needs, library_machine::specs::Changing::is_idle, library_machine::specs::Changing::effect, library_machine::specs::Changing::answer_to))]
+    #[tactic(auto, using(file_records::specs::NearLaws::below), unfolding(library_machine::specs::Changing::needs, library_machine::specs::Changing::is_idle, library_machine::specs::Effects::effect, library_machine::specs::Changing::answer_to))]
     pub(crate) fn plan_live<L: Ledger>(
         &mut self,
         file: FileNo,

@@ -29,7 +29,7 @@ pub struct PlannedImport {
 }
 
 impl Tables {
-    #[tactic(auto, using(library_machine::specs::GoodLaws::changes_keep_fit), unfolding(library_machine::specs::Changing::needs, library_machine::specs::Changing::is_idle, library_machine::specs::Changing::effect, library_machine::specs::Changing::answer_to))]
+    #[tactic(auto, using(library_machine::specs::GoodLaws::changes_keep_fit), unfolding(library_machine::specs::Changing::needs, library_machine::specs::Changing::is_idle, library_machine::specs::Effects::effect, library_machine::specs::Changing::answer_to))]
     pub(crate) fn plan_import<L: Ledger>(
         &mut self,
         file: &NewFile,

@@ -30,7 +30,7 @@ impl Tables {
             Query::PairCount(at_most) => Ok(Ok(self.tell_pair_count(*at_most))),
             Query::Queues => Ok(Ok(self.tell_queues())),
             Query::Mappings { service, file } => self.tell_mappings(*service, *file, steps),
-            Query::Ideal { service, tag } => self.tell_ideal(*service, tag),
+            Query::Ideal { service, tag } => self.tell_ideal(*service, tag, steps),
         }
     }
 
@@ -60,7 +60,9 @@ impl Tables {
             Change::Orders { service, orders } => self.plan_orders(*service, orders, steps),
             Change::Mapping(mapping) => self.plan_mapping(mapping, steps),
             Change::SiblingAdded(pair) => self.plan_sibling(pair, steps),
-            Change::SiblingRemoved(pair) => self.plan_removal(pair, steps),
+            Change::SiblingRemoved(pair) => self.plan_no_sibling(pair, steps),
+            Change::ParentAdded(pair) => self.plan_parent(pair, steps),
+            Change::ParentRemoved(pair) => self.plan_no_parent(pair, steps),
         }
     }
 

@@ -7,15 +7,18 @@
 
 mod decisions;
 mod deletion;
+mod implied;
 mod imports;
 mod kinds;
 mod laws;
 mod numbers;
 mod pairs;
+mod parents;
 mod plan;
 mod searches;
 mod siblings;
 mod tables;
+mod tag_pairs;
 mod tags;
 mod words;
 
@@ -25,6 +28,6 @@ pub use imports::PlannedImport;
 pub use laws::searches_read_few;
 pub use plan::{Deed, Prepared, TablesPlan};
 pub use searches::{PlannedDistance, PlannedSearch};
-pub use siblings::PlannedSibling;
 pub use tables::Tables;
+pub use tag_pairs::PlannedPair;
 pub use tags::{PlannedMapping, PlannedOrders};

@@ -2,10 +2,9 @@ use crate::decisions::{PlannedDecision, PlannedUndo};
 use crate::deletion::PlannedLive;
 use crate::imports::PlannedImport;
 use crate::searches::{PlannedDistance, PlannedSearch};
-use crate::siblings::PlannedSibling;
+use crate::tag_pairs::PlannedPair;
 use crate::tags::{PlannedMapping, PlannedOrders};
 use media_base::{Answer, Change, Unmet};
-use sibling_chains::SiblingPlan;
 
 /// A change of the tables that is ready to be made. Dropped, it changes nothing.
 #[derive(Drop)]
@@ -19,8 +18,7 @@ pub enum TablesPlan {
     Service,
     Orders(PlannedOrders),
     Mapping(PlannedMapping),
-    SiblingAdded(PlannedSibling),
-    SiblingRemoved(SiblingPlan),
+    Pair(PlannedPair),
 }
 
 /// What a change comes to.

@@ -44,7 +44,7 @@ pub struct PlannedSearch {
 }
 
 impl Tables {
-    #[tactic(auto, using(library_machine::specs::GoodLaws::changes_keep_fit, file_records::specs::QueueLaws::queue_ascends, file_records::specs::QueueLaws::queue_known), unfolding(library_machine::specs::Changing::needs, library_machine::specs::Changing::is_idle, library_machine::specs::Changing::effect, library_machine::specs::Changing::answer_to))]
+    #[tactic(auto, using(library_machine::specs::GoodLaws::changes_keep_fit, file_records::specs::QueueLaws::queue_ascends, file_records::specs::QueueLaws::queue_known), unfolding(library_machine::specs::Changing::needs, library_machine::specs::Changing::is_idle, library_machine::specs::Effects::effect, library_machine::specs::Changing::answer_to))]
     pub(crate) fn plan_distance<L: Ledger>(
         &mut self,
         distance: SearchDistance,
@@ -66,7 +66,7 @@ impl Tables {
         ))
     }
 
-    #[tactic(auto, using(library_machine::specs::GoodLaws::changes_keep_fit, file_records::specs::SearchLaws::known, file_records::specs::SearchLaws::rising_ascends), unfolding(library_machine::specs::Changing::needs, library_machine::specs::Changing::is_idle, library_machine::specs::Changing::effect, library_machine::specs::Changing::answer_to))]
+    #[tactic(auto, using(library_machine::specs::GoodLaws::changes_keep_fit, file_records::specs::SearchLaws::known, file_records::specs::SearchLaws::rising_ascends), unfolding(library_machine::specs::Changing::needs, library_machine::specs::Changing::is_idle, library_machine::specs::Effects::effect, library_machine::specs::Changing::answer_to))]
     pub(crate) fn plan_search<L: Ledger>(
         &mut self,
         searching: &Searching,

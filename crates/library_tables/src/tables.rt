@@ -8,24 +8,24 @@ ghost use Rattle.library_tables.specs.Preparing.{Leads, words_placed};
 ghost use Rattle.library_tables.specs.Tables.{HasWords, marked_tree, records_of};
 
 use crate::plan::TablesPlan;
-use crate::siblings::first_siblings;
+use crate::tag_pairs::first_relations;
 use decision_book::Book;
 use file_records::Files;
 use media_base::{FileNo, HashNo, NoMemory, SearchDistance, Steps};
 use potential_pairs::Pairs;
 use relation_groups::Groups;
-use sibling_chains::Siblings;
 use std::alloc::Global;
 use std::marker::Model;
 use std::sync::ledger::Ledger;
+use tag_relations::TagRelations;
 use tag_store::{Mappings, Services, Tags};
 use tree_upkeep::Upkeep;
 use vp_tree::Tree;
 
 /// The tables of a library: its files, its decisions, the groups that the standing decisions make of the
 /// files, the tree of their hashes, their near pairs with the potential pairs of groups, the queue of those
-/// that are to be searched, and the marks of the tree's nodes. A change is planned first, which takes all memory, and then it can't be
-/// refused.
+/// that are to be searched, and the marks of the tree's nodes. A change is planned first, which takes all
+/// memory, and then it can't be refused.
 #[derive(Drop)]
 pub struct Tables {
     pub(crate) alloc: Global,
@@ -44,8 +44,8 @@ pub struct Tables {
     pub(crate) services: Services,
     /// The tags that are mapped to files.
     pub(crate) mappings: Mappings,
-    /// The sibling pairs of tags, and the ideal tags that they make.
-    pub(crate) siblings: Siblings,
+    /// The sibling pairs and the parent pairs of tags.
+    pub(crate) relations: TagRelations,
 }
 
 impl Model for Tables {
@@ -64,7 +64,7 @@ impl Model for Tables {
       tags = t.tags;
       services = t.services;
       mappings = t.mappings;
-      siblings = t.siblings;
+      relations = t.relations;
     } };
 
     ghost invariant = { λ t. AreInStep (record {
@@ -78,7 +78,7 @@ impl Model for Tables {
       tags = t.tags;
       services = t.services;
       mappings = t.mappings;
-      siblings = t.siblings;
+      relations = t.relations;
     }) };
 }
 
@@ -89,7 +89,7 @@ impl Tables {
         ensures tree { IfOk result (λ tables. tables.tree.rows ≡ []) }
         ensures marks { IfOk result (λ tables. tables.work.marks ≡ []) }
     {
-        let siblings = first_siblings(alloc)?;
+        let relations = first_relations(alloc)?;
         Ok(Tables {
             alloc,
             files: Files::new(alloc),
@@ -102,7 +102,7 @@ impl Tables {
             tags: Tags::new(alloc),
             services: Services::new(),
             mappings: Mappings::new(alloc),
-            siblings,
+            relations,
         })
     }
 
@@ -130,8 +130,7 @@ impl Tables {
             TablesPlan::Service => self.commit_service(),
             TablesPlan::Orders(plan) => self.commit_orders(plan),
             TablesPlan::Mapping(plan) => self.commit_mapping(plan),
-            TablesPlan::SiblingAdded(plan) => self.commit_sibling(plan),
-            TablesPlan::SiblingRemoved(plan) => self.commit_removal(plan),
+            TablesPlan::Pair(plan) => self.commit_pair(plan),
         }
     }
 
@@ -150,8 +149,7 @@ impl Tables {
             | TablesPlan::Service
             | TablesPlan::Orders(_)
             | TablesPlan::Mapping(_)
-            | TablesPlan::SiblingAdded(_)
-            | TablesPlan::SiblingRemoved(_) => {}
+            | TablesPlan::Pair(_) => {}
         }
     }
 

@@ -21,15 +21,15 @@ use media_base::{
     Answer, FileMappings, FileNo, MAX_MAPPINGS, MAX_SERVICES, MAX_TAGS, MapState, Mapped, Mapping,
     NoMemory, Orders, ServiceNo, Steps, TagNo, TagText, TagTextList, Unmet,
 };
-use sibling_chains::SiblingPlan;
 use std::sync::ledger::Ledger;
+use tag_relations::OrderPlan;
 
 /// Orders of a service that are ready to be set.
 #[derive(Drop)]
 pub struct PlannedOrders {
     pub(crate) service: ServiceNo,
     pub(crate) orders: Orders,
-    pub(crate) siblings: SiblingPlan,
+    pub(crate) relations: OrderPlan,
 }
 
 /// A mapping that is ready to be set, or taken away.
@@ -50,7 +50,7 @@ impl Tables {
         service.0 < self.services.len()
     }
 
-    #[tactic(auto, unfolding(library_machine::specs::Changing::needs, library_machine::specs::Changing::is_idle, library_machine::specs::Changing::effect, library_machine::specs::Changing::answer_to))]
+    #[tactic(auto, unfolding(library_machine::specs::Changing::needs, library_machine::specs::Changing::is_idle, library_machine::specs::Effects::effect, library_machine::specs::Changing::answer_to))]
     pub(crate) fn plan_service(&mut self) -> Result<Prepared, NoMemory>
         ensures records { records_of self.new ≡ records_of self.old }
         ensures tree { marked_tree self.new ≡ marked_tree self.old }
@@ -60,11 +60,11 @@ impl Tables {
         if count >= MAX_SERVICES as u8 {
             return Ok(Unmet::FullServices.into());
         }
-        self.siblings.reserve_service()?;
+        self.relations.reserve_service()?;
         Ok(Prepared::Ready(TablesPlan::Service, Answer::Service(ServiceNo(count))))
     }
 
-    #[tactic(auto, unfolding(library_machine::specs::Changing::needs, library_machine::specs::Changing::is_idle, library_machine::specs::Changing::effect, library_machine::specs::Changing::answer_to))]
+    #[tactic(auto, unfolding(library_machine::specs::Changing::needs, library_machine::specs::Changing::is_idle, library_machine::specs::Effects::effect, library_machine::specs::Changing::answer_to))]
     pub(crate) fn plan_orders<L: Ledger>(
         &mut self,
         service: ServiceNo,
@@ -82,11 +82,14 @@ impl Tables {
         if *self.services.orders(service) == *orders {
             return Ok(Prepared::Idle(answer));
         }
-        let siblings = self.siblings.plan_order(service, &orders.siblings, steps)?;
+        let relations = self.relations.plan_orders(service, orders, steps)?;
+        if let Some(why) = self.over_orders(&relations, steps)? {
+            return Ok(why.into());
+        }
         let plan = PlannedOrders {
             service,
             orders: *orders,
-            siblings,
+            relations,
         };
         Ok(Prepared::Ready(TablesPlan::Orders(plan), answer))
     }
@@ -264,7 +267,7 @@ impl Tables {
         ensures words { HasWords self.new.tree.rows (records_of self.new) }
     {
         self.services.add();
-        self.siblings.add_service();
+        self.relations.add_service();
     }
 
     pub(crate) fn commit_orders(&mut self, plan: PlannedOrders)
@@ -274,7 +277,7 @@ impl Tables {
         ensures words { HasWords self.new.tree.rows (records_of self.new) }
     {
         self.services.set(plan.service, plan.orders);
-        self.siblings.commit(plan.siblings);
+        self.relations.commit_orders(plan.relations);
     }
 
     pub(crate) fn commit_mapping(&mut self, plan: PlannedMapping)

@@ -8,7 +8,7 @@ use Rattle.library_tables.proofs.tables.Tables.new.Goals as goal
 
 pub invariant_of-result : goal.invariant_of-result
 invariant_of-result c = record {
-  fits = rw (c.new.ensures.rows, c.new-2.ensures.rows, c.first.ensures, c.new-7.ensures, c.new-8.ensures, c.new-9.ensures.rows, c.in_ok-siblings.ensures.rows) first_fit;
+  fits = rw (c.new.ensures.rows, c.new-2.ensures.rows, c.first.ensures, c.new-7.ensures, c.new-8.ensures, c.new-9.ensures.rows, c.in_ok-relations.ensures.sibling_rows, c.in_ok-relations.ensures.parent_rows) first_fit;
   decided = rw (c.new.ensures.rows, c.new-2.ensures.files) refl;
   grouped = rw (c.new.ensures.rows, c.new-3.ensures.size) refl;
   related = rw (c.new-2.ensures.rows, c.new-3.ensures.relations) refl;
@@ -19,7 +19,7 @@ invariant_of-result c = record {
     gone = c.new-5.ensures.gone ∙ sym (ap deleted c.new.ensures.rows);
     of = c.new-5.ensures.of _;
   };
-  ordered = c.in_ok-siblings.ensures.orders ∙ rw c.new-8.ensures refl;
-  untied = c.in_ok-siblings.ensures.ties;
+  ordered = c.in_ok-relations.ensures.sibling_orders ∙ rw c.new-8.ensures refl;
+  parents_ordered = c.in_ok-relations.ensures.parent_orders ∙ rw c.new-8.ensures refl;
   queued = rw (c.new.ensures.rows, c.new-6.ensures.queue) (sym (no_queue c.first.result));
 }

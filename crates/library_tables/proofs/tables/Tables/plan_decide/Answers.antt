@@ -19,7 +19,7 @@ plan_moved-requires-clause-sound_after g c =
 pub returns-clause-prepared : goal.returns-clause-prepared
 returns-clause-prepared g c =
     let d = c.args.decision in
-    let new : TablesView = record { files = c.self.inside.files; book = c.reserve.new.self; groups = c.plan_decide.new.self; tree = c.self.inside.tree; pairs = c.plan_moved.new.self; work = c.self.inside.upkeep; distance = c.self.inside.distance; tags = c.self.inside.tags; services = c.self.inside.services; mappings = c.self.inside.mappings; siblings = c.self.inside.siblings } in
+    let new : TablesView = record { files = c.self.inside.files; book = c.reserve.new.self; groups = c.plan_decide.new.self; tree = c.self.inside.tree; pairs = c.plan_moved.new.self; work = c.self.inside.upkeep; distance = c.self.inside.distance; tags = c.self.inside.tags; services = c.self.inside.services; mappings = c.self.inside.mappings; relations = c.self.inside.relations } in
     let rows = c.in_ok-reserve.ensures.rows in
     let there = subst (λ (t : TablesView). (has_file (records_of t) d.a && has_file (records_of t) d.b) ≡ true) (sym c.self.view_is) (sym c.if-not-has_both.ensures) in
     decide_prepared new (record { decision = d; groups = c.in_ok-groups.groups; pairs = c.in_ok-pairs.pairs }) c.len-count.result

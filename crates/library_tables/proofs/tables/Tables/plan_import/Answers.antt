@@ -12,7 +12,7 @@ plan_words-requires-clause-few g c =
 
 pub returns-clause-prepared : goal.returns-clause-prepared
 returns-clause-prepared g c =
-    let new : TablesView = record { files = c.plan_import.new.self; book = c.reserve.new.self; groups = c.reserve_file.new.self; tree = c.plan_words.new.tree; pairs = c.self.inside.pairs; work = c.reserve-2.new.self; distance = c.self.inside.distance; tags = c.self.inside.tags; services = c.self.inside.services; mappings = c.self.inside.mappings; siblings = c.self.inside.siblings } in
+    let new : TablesView = record { files = c.plan_import.new.self; book = c.reserve.new.self; groups = c.reserve_file.new.self; tree = c.plan_words.new.tree; pairs = c.self.inside.pairs; work = c.reserve-2.new.self; distance = c.self.inside.distance; tags = c.self.inside.tags; services = c.self.inside.services; mappings = c.self.inside.mappings; relations = c.self.inside.relations } in
     let rows = c.plan_import.ensures.rows in
     let asks = asks_of_tree c.self.inside.tree c.self.inside.files.rows c.plan_import.new.self.rows c.plan_import.new.self.spare _ _ c.self.invariant.words rows c.in_ok-file.ensures.planned c.words.ensures in
     import_prepared new c.args.file.now (record { file = c.in_ok-file.file; words = c.in_ok-words.words; queued = not c.is_empty-queued.result }) c.len-count.result

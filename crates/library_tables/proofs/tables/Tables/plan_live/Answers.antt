@@ -11,7 +11,7 @@ returns-clause-prepared g c =
     let live = c.args.live in
     let old = c.self.inside in
     let queued = c.if-live.queued in
-    let new : TablesView = record { files = old.files; book = old.book; groups = old.groups; tree = old.tree; pairs = c.plan_live.new.self; work = c.reserve.new.self; distance = old.distance; tags = old.tags; services = old.services; mappings = old.mappings; siblings = old.siblings } in
+    let new : TablesView = record { files = old.files; book = old.book; groups = old.groups; tree = old.tree; pairs = c.plan_live.new.self; work = c.reserve.new.self; distance = old.distance; tags = old.tags; services = old.services; mappings = old.mappings; relations = old.relations } in
     let told : (live && passes (wants_search old.distance) old.files.rows file.0) ≡ queued = elim c.if-live.branch [
       | then-live w ↦ told_live live _ queued w.if-live.true (w.queued-is ∙ w.wants_search-queued.ensures.wants)
       | else-live w ↦ told_deleted live _ queued w.if-live.false w.queued-is

@@ -8,7 +8,8 @@ use Rattle.file_records.specs.SearchLaws.{enough}
 use Rattle.file_records.specs.Searching.{queue_of, rising, searched}
 use Rattle.relation_groups.specs.Reading.{relations_in}
 use Rattle.std.proofs.lemmas.Grind.{common_steps}
-use Rattle.library_machine.specs.Changing.{answer_to, effect, is_idle, needs}
+use Rattle.library_machine.specs.Changing.{answer_to, is_idle, needs}
+use Rattle.library_machine.specs.Effects.{effect}
 use Rattle.library_machine.specs.Needs.{has_file}
 use Rattle.library_machine.specs.Records.{Records}
 use Rattle.library_tables.specs.Pairs.{LeadsPairs}

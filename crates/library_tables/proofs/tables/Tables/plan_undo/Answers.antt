@@ -65,7 +65,7 @@ returns-clause-prepared g c =
     let m = length c.self.inside.files.rows in
     let rows = c.self.inside.book.rows in
     let among = c.self.invariant.fits.among in
-    let new : TablesView = record { files = c.self.inside.files; book = c.self.inside.book; groups = c.plan_refold.new.self; tree = c.self.inside.tree; pairs = c.plan_moved.new.self; work = c.self.inside.upkeep; distance = c.self.inside.distance; tags = c.self.inside.tags; services = c.self.inside.services; mappings = c.self.inside.mappings; siblings = c.self.inside.siblings } in
+    let new : TablesView = record { files = c.self.inside.files; book = c.self.inside.book; groups = c.plan_refold.new.self; tree = c.self.inside.tree; pairs = c.plan_moved.new.self; work = c.self.inside.upkeep; distance = c.self.inside.distance; tags = c.self.inside.tags; services = c.self.inside.services; mappings = c.self.inside.mappings; relations = c.self.inside.relations } in
     let anew : relations_after c.in_ok-groups.groups c.plan_refold.new.self ≡ relations (standing (undone_at n.0 rows)) =
     c.in_ok-groups.ensures.after
     ∙ rw (c.in_ok-files.ensures, c.len-2.ensures.rows, c.in_ok-standing.ensures.decisions, c.self.invariant.related)

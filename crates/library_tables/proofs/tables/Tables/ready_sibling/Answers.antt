@@ -1,54 +1,38 @@
-use Rattle.std.proofs.Common.{◌≡◌, ap, ◌∙◌, rules}
-use Rattle.media_base.specs.declared.reply.SiblingTags.{SiblingTags}
+use Rattle.std.proofs.Common.{◌≡◌, ◌∙◌, ◌<◌, ap, subst, sym}
+use Rattle.media_base.specs.declared.reply.PairTags.{PairTags}
 use Rattle.sibling_chains.specs.Following.{good_of}
 use Rattle.sibling_chains.specs.Recorded.{pairs_of}
-use Rattle.sibling_chains.specs.declared.relation_row.RelationRow.{RelationRow}
-use Rattle.std.specs.Prelude.{List}
-use Rattle.library_machine.specs.Records.{Fits}
+use Rattle.library_machine.specs.Records.{Fits, Records}
 use Rattle.library_machine.specs.RelatedLaws.{none_stands}
-use Rattle.library_tables.specs.Tables.{records_of}
-use Rattle.library_tables.proofs.Related.{adding_reads, tags_below}
+use Rattle.library_tables.specs.Tables.{TablesView, records_of}
+use Rattle.library_tables.proofs.Implying.{tags_below, touching_new}
 use Rattle.library_tables.proofs.tables.Tables.ready_sibling.Goals as goal
 
-pub overflow_add-count : goal.overflow_add-count
-overflow_add-count g c =
-    let below = tags_below (records_of c.args.self.now) c.args.pair.now c.args.tags c.requires.tags c.requires.few_tags in
-    search (rules, below)
+pub reserve_pair-requires-clause-first : goal.reserve_pair-requires-clause-first
+reserve_pair-requires-clause-first g c = (tags_below (records_of c.args.self.now) c.args.pair.now c.args.tags c.requires.tags c.requires.few).0
 
-pub grow-requires : goal.grow-requires
-grow-requires g c =
-    let below = tags_below (records_of c.args.self.now) c.args.pair.now c.args.tags c.requires.tags c.requires.few_tags in
-    search (rules, below)
+pub reserve_pair-requires-clause-second : goal.reserve_pair-requires-clause-second
+reserve_pair-requires-clause-second g c = (tags_below (records_of c.args.self.now) c.args.pair.now c.args.tags c.requires.tags c.requires.few).1
 
-pub plan_add-requires-clause-new : goal.plan_add-requires-clause-new
-plan_add-requires-clause-new g c =
+pub plan_sibling-requires-clause-new : goal.plan_sibling-requires-clause-new
+plan_sibling-requires-clause-new g c =
+    let view : TablesView = record { files = c.self.inside.files; book = c.self.inside.book; groups = c.self.inside.groups; tree = c.self.inside.tree; pairs = c.self.inside.pairs; work = c.self.inside.upkeep; distance = c.self.inside.distance; tags = c.self.inside.tags; services = c.self.inside.services; mappings = c.self.inside.mappings; relations = c.self.inside.relations } in
     let r = records_of c.args.self.now in
-    let fits : Fits r = search rules in
+    let same : records_of view ≡ r = subst (λ (t : TablesView). records_of t ≡ r) (sym c.self.view_is) c.reserve_pair.ensures.records in
+    let fits : Fits r = subst Fits same c.self.invariant.fits in
     let none = none_stands r c.args.pair.now.service c.args.pair.now.first fits.siblings c.requires.new in
-    let rows : c.grow.new.siblings.rows ≡ r.siblings = search rules in
-    ap (λ (rows : List RelationRow). good_of (pairs_of rows c.args.pair.now.service) c.args.tags.bad.0) rows
-    ∙ ap (λ (tags : SiblingTags). good_of (pairs_of r.siblings c.args.pair.now.service) tags.bad.0) c.requires.tags ∙ none
+    ap (λ (r : Records). good_of (pairs_of r.siblings c.args.pair.now.service) c.args.tags.first.0) same
+    ∙ ap (λ (tags : PairTags). good_of (pairs_of r.siblings c.args.pair.now.service) tags.first.0) c.requires.tags ∙ none
 
-pub returns-in_err-siblings-clause-reads : goal.returns-in_err-siblings-clause-reads
-returns-in_err-siblings-clause-reads g c =
+pub returns-clause-touching : goal.returns-clause-touching
+returns-clause-touching g c =
+    let plan = c.in_ok-plan.plan in
+    let view : TablesView = record { files = c.self.inside.files; book = c.self.inside.book; groups = c.self.inside.groups; tree = c.self.inside.tree; pairs = c.self.inside.pairs; work = c.self.inside.upkeep; distance = c.self.inside.distance; tags = c.self.inside.tags; services = c.self.inside.services; mappings = c.self.inside.mappings; relations = c.self.inside.relations } in
+    let new : TablesView = record view { relations = c.plan_sibling.new.self } in
     let r = records_of c.args.self.now in
-    let fits : Fits r = search rules in
-    let rows : c.grow.new.siblings.rows ≡ r.siblings = search rules in
-    let untied = c.grow.ensures.ties ∙ c.self.invariant.untied in
-    adding_reads r c.args.pair.now c.args.tags c.grow.new.siblings c.args.steps.now c.plan_add.new.steps c.requires.tags rows untied fits c.plan_add.ensures.steps
-
-pub returns-in_err-copied-clause-reads : goal.returns-in_err-copied-clause-reads
-returns-in_err-copied-clause-reads g c =
-    let r = records_of c.args.self.now in
-    let fits : Fits r = search rules in
-    let rows : c.grow.new.siblings.rows ≡ r.siblings = search rules in
-    let untied = c.grow.ensures.ties ∙ c.self.invariant.untied in
-    adding_reads r c.args.pair.now c.args.tags c.grow.new.siblings c.args.steps.now c.plan_add.new.steps c.requires.tags rows untied fits c.plan_add.ensures.steps
-
-pub returns-clause-reads : goal.returns-clause-reads
-returns-clause-reads g c =
-    let r = records_of c.args.self.now in
-    let fits : Fits r = search rules in
-    let rows : c.grow.new.siblings.rows ≡ r.siblings = search rules in
-    let untied = c.grow.ensures.ties ∙ c.self.invariant.untied in
-    adding_reads r c.args.pair.now c.args.tags c.grow.new.siblings c.args.steps.now c.plan_add.new.steps c.requires.tags rows untied fits c.plan_add.ensures.steps
+    let before : records_of view ≡ r = subst (λ (t : TablesView). records_of t ≡ r) (sym c.self.view_is) c.reserve_pair.ensures.records in
+    let same = c.plan_sibling.ensures.same in
+    let after : records_of new ≡ r = rw (same.siblings.rows, same.parents.rows) before in
+    let known_a : c.args.tags.first.0 < c.plan_sibling.new.self.siblings.tags = rw same.siblings.tags (subst (λ (t : TablesView). c.args.tags.first.0 < t.relations.siblings.tags) (sym c.self.view_is) c.in_ok-reserve_pair.ensures.first) in
+    let known_b : c.args.tags.second.0 < c.plan_sibling.new.self.siblings.tags = rw same.siblings.tags (subst (λ (t : TablesView). c.args.tags.second.0 < t.relations.siblings.tags) (sym c.self.view_is) c.in_ok-reserve_pair.ensures.second) in
+    touching_new new r c.args.pair.now c.args.tags plan after c.requires.tags c.in_ok-plan.ensures.fits c.in_ok-plan.ensures.touched known_a known_b

@@ -13,5 +13,5 @@ invariant_of-self g c = record {
   paired = c.self.invariant.paired;
   queued = c.commit_rebuild.ensures.queue ∙ c.self.invariant.queued;
   ordered = c.self.invariant.ordered;
-  untied = c.self.invariant.untied;
+  parents_ordered = c.self.invariant.parents_ordered;
 }
