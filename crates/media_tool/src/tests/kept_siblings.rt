@@ -8,19 +8,19 @@ use std::process::Abort;
 use std::test::Fail;
 use std::thread::Threads;
 
-const CHANGED: &str = "{\"changed\":true}\n";
+pub(super) const CHANGED: &str = "{\"changed\":true}\n";
 
 const PAIR_0_1: &str = "{\"bad\":0,\"good\":1}\n";
 
-const B_KNOWN: &str = "{\"error\":\"pair_known\",\"good\":\"b\"}\n";
+pub(super) const B_KNOWN: &str = "{\"error\":\"pair_known\",\"good\":\"b\"}\n";
 
-const UNKNOWN_PAIR: &str = "{\"error\":\"unknown_pair\"}\n";
+pub(super) const UNKNOWN_PAIR: &str = "{\"error\":\"unknown_pair\"}\n";
 
-const IDEAL_A: &str = "{\"ideal\":\"a\",\"ancestors\":[]}\n";
+pub(super) const IDEAL_A: &str = "{\"ideal\":\"a\",\"ancestors\":[]}\n";
 
-const IDEAL_B: &str = "{\"ideal\":\"b\",\"ancestors\":[]}\n";
+pub(super) const IDEAL_B: &str = "{\"ideal\":\"b\",\"ancestors\":[]}\n";
 
-const IDEAL_C: &str = "{\"ideal\":\"c\",\"ancestors\":[]}\n";
+pub(super) const IDEAL_C: &str = "{\"ideal\":\"c\",\"ancestors\":[]}\n";
 
 const NOT_KEPT_PAIRS: [Case; 3] = [
     // A pair that isn't kept numbers no tag.
@@ -113,17 +113,18 @@ const KEPT: [Kept; 6] = [
     Kept(false, "b", "c"),
 ];
 
-impl Kept {
-    fn assert_pair(&self, rt: &impl Abort, pair: &TagPair) {
-        assert_eq!(rt; pair.service, ServiceNo(0));
-        assert_eq!(rt; pair.first.as_str(), self.1);
-        assert_eq!(rt; pair.second.as_str(), self.2);
-    }
+/// It is the pair of these tags in service 0.
+pub(super) fn assert_pair(rt: &impl Abort, pair: &TagPair, first: &str, second: &str) {
+    assert_eq!(rt; pair.service, ServiceNo(0));
+    assert_eq!(rt; pair.first.as_str(), first);
+    assert_eq!(rt; pair.second.as_str(), second);
+}
 
+impl Kept {
     fn assert_change(&self, rt: &impl Abort, change: &Change) {
         match change {
-            Change::SiblingAdded(pair) if self.0 => self.assert_pair(rt, pair),
-            Change::SiblingRemoved(pair) if !self.0 => self.assert_pair(rt, pair),
+            Change::SiblingAdded(pair) if self.0 => assert_pair(rt, pair, self.1, self.2),
+            Change::SiblingRemoved(pair) if !self.0 => assert_pair(rt, pair, self.1, self.2),
             _ => panic!(rt; "{change:?}"),
         }
     }
@@ -146,12 +147,12 @@ fn pairs_are_kept_as_they_are_said(rt: HostRuntime) -> Result<(), Fail> {
 
 /// A session over a keeper of some of the kept changes, by their places.
 #[derive(Clone, Copy)]
-struct Opened {
-    places: &'static [usize],
-    case: Case,
+pub(super) struct Opened {
+    pub(super) places: &'static [usize],
+    pub(super) case: Case,
 }
 
-const IDEALS: Case = Case {
+pub(super) const IDEALS: Case = Case {
     lines: &[Ideal(0, "a"), Ideal(0, "b"), Ideal(0, "c")],
     ..Case::PLAIN
 };
@@ -266,7 +267,7 @@ fn some_of(alloc: Global, changes: &ChangeList, places: &[usize]) -> Result<Chan
     Ok(some)
 }
 
-fn assert_opened(
+pub(super) fn assert_opened(
     rt: &(impl Threads + Abort),
     alloc: Global,
     changes: &ChangeList,

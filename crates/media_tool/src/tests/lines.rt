@@ -1,5 +1,6 @@
 //! The lines of a session, as the tests write them.
 
+use crate::tests::pair_lines::{PairCommand, write_pair};
 use std::alloc::{AllocError, Global};
 
 /// What a decision says of its two files.
@@ -89,6 +90,9 @@ pub enum Line {
     /// The pair of a bad tag and its good one is recorded in a service. The tags stand as JSON spells them.
     AddSibling(u32, &'static str, &'static str),
     RemoveSibling(u32, &'static str, &'static str),
+    /// The pair of a child and its parent is recorded in a service.
+    AddParent(u32, &'static str, &'static str),
+    RemoveParent(u32, &'static str, &'static str),
     /// The ideal tag of a tag in a service.
     Ideal(u32, &'static str),
     /// So many spaces.
@@ -127,10 +131,16 @@ impl Line {
             Line::Unmap(service, tag, file) => write_unmap(input, *service, tag, *file),
             Line::Mappings(service, file) => write_mappings(input, *service, *file),
             Line::AddSibling(service, bad, good) => {
-                write_pair(input, "add_sibling", *service, bad, good)
+                write_pair(input, PairCommand::AddSibling, *service, bad, good)
             }
             Line::RemoveSibling(service, bad, good) => {
-                write_pair(input, "remove_sibling", *service, bad, good)
+                write_pair(input, PairCommand::RemoveSibling, *service, bad, good)
+            }
+            Line::AddParent(service, child, parent) => {
+                write_pair(input, PairCommand::AddParent, *service, child, parent)
+            }
+            Line::RemoveParent(service, child, parent) => {
+                write_pair(input, PairCommand::RemoveParent, *service, child, parent)
             }
             Line::Ideal(service, tag) => write_ideal(input, *service, tag),
             Line::Spaces(count) => write_spaces(input, *count),
@@ -239,20 +249,6 @@ fn write_mappings(input: &mut String, service: u32, file: u32) -> Result<(), All
     writeln!(
         input,
         "{{\"do\":\"mappings\",\"service\":{service},\"file\":{file}}}"
-    )
-}
-
-/// The line of `AddSibling` or `RemoveSibling`, by its name, for tags that aren't known beforehand.
-pub fn write_pair(
-    input: &mut String,
-    name: &str,
-    service: u32,
-    bad: &str,
-    good: &str,
-) -> Result<(), AllocError> {
-    writeln!(
-        input,
-        "{{\"do\":\"{name}\",\"service\":{service},\"bad\":\"{bad}\",\"good\":\"{good}\"}}"
     )
 }
 

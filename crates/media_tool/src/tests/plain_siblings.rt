@@ -1,13 +1,13 @@
 //! Sibling pairs in the plainest way: the standing ones in order of recording. For each question those of a
 //! service are taken anew, one after the other, and then followed.
 
+use crate::tests::plain_orders::PlainOrders;
 use crate::tests::plain_tags::PlainTags;
-use crate::tests::scripts::Script;
 use std::alloc::{AllocError, Global};
 
 /// A bad tag and its good one.
 #[derive(Clone, Copy)]
-struct PlainPair {
+pub(super) struct PlainPair {
     bad: usize,
     good: usize,
 }
@@ -25,19 +25,11 @@ impl PlainSibling {
     }
 }
 
-/// A service of whose pairs another, or the same, makes its ideal tags.
-#[derive(Clone, Copy)]
-struct PlainSource {
-    reader: u32,
-    service: u32,
-}
-
 #[derive(Drop)]
 pub struct PlainSiblings {
     alloc: Global,
     standing: Vec<PlainSibling>,
-    /// Those of each service in their order.
-    sources: Vec<PlainSource>,
+    pub(super) orders: PlainOrders,
 }
 
 impl PlainSiblings {
@@ -45,20 +37,8 @@ impl PlainSiblings {
         PlainSiblings {
             alloc,
             standing: Vec::new(alloc),
-            sources: Vec::new(alloc),
+            orders: PlainOrders::new(alloc),
         }
-    }
-
-    /// A service takes its pairs from these services, in this order.
-    pub fn set_order(&mut self, reader: u32, order: &[u32]) -> Result<(), AllocError> {
-        self.sources.retain(|source| source.reader != reader);
-        for service in order {
-            self.sources.push(PlainSource {
-                reader,
-                service: *service,
-            })?;
-        }
-        Ok(())
     }
 
     // The good tag of the standing pair of a service and a bad tag.
@@ -90,12 +70,10 @@ impl PlainSiblings {
     }
 
     // The pairs that a service takes of those that stand.
-    fn taken(&self, reader: u32) -> Result<Vec<PlainPair>, AllocError> {
+    pub(super) fn taken(&self, reader: u32) -> Result<Vec<PlainPair>, AllocError> {
         let mut taken = Vec::new(self.alloc);
-        for source in &self.sources {
-            if source.reader == reader {
-                self.take_from(&mut taken, source.service)?;
-            }
+        for service in &self.orders.of(reader)? {
+            self.take_from(&mut taken, *service)?;
         }
         Ok(taken)
     }
@@ -123,8 +101,8 @@ fn is_passed_over(taken: &[PlainPair], pair: PlainPair) -> bool {
     next_of(taken, pair.bad).is_some() || reaches(taken, pair.good, pair.bad)
 }
 
-// The end of the chain of pairs from a tag.
-fn end_of(pairs: &[PlainPair], tag: usize) -> usize {
+/// The end of the chain of pairs from a tag.
+pub(super) fn end_of(pairs: &[PlainPair], tag: usize) -> usize {
     let mut end = tag;
     for _step in pairs {
         end = next_of(pairs, end).unwrap_or(end);
@@ -190,34 +168,5 @@ impl PlainTags {
         }
         self.siblings.remove(service, bad);
         self.changed(true)
-    }
-
-    // The text of the ideal tag of a clean text that has a number.
-    fn ideal_text(&self, service: u32, text: &str) -> Result<Option<&str>, AllocError> {
-        let Some(tag) = self.number(text) else {
-            return Ok(None);
-        };
-        let taken = self.siblings.taken(service)?;
-        Ok(self.text(end_of(&taken, tag)))
-    }
-
-    /// Tells the ideal tag of a clean text.
-    pub fn ideal(&self, service: u32, text: &str) -> Result<String, AllocError> {
-        if self.services() <= service {
-            return self.refused("unknown_service");
-        }
-        match self.ideal_text(service, text)? {
-            Some(ideal) => format!(in self.alloc; "{{\"ideal\":\"{ideal}\",\"ancestors\":[]}}"),
-            None => self.refused("unknown_tag"),
-        }
-    }
-
-    /// Asks for the ideal tags of all tags in a service.
-    pub fn ask_for_ideals(&self, service: u32, script: &mut Script) -> Result<(), AllocError> {
-        for text in &self.tags {
-            let reply = self.ideal(service, text.as_str())?;
-            script.ask_for_ideal(service, text.as_str(), &reply)?;
-        }
-        Ok(())
     }
 }

@@ -1,7 +1,9 @@
 //! Files, services and mappings in the plainest way: lists in the order of first use, which each command goes
-//! over. `plain_siblings` has the commands of sibling pairs.
+//! over. `plain_siblings` has the commands of sibling pairs, and `plain_parents` those of parent pairs and what is
+//! told of ideal tags.
 
 use crate::tests::lines::{Line, State};
+use crate::tests::plain_parents::PlainParents;
 use crate::tests::plain_siblings::PlainSiblings;
 use crate::tests::scripts::Script;
 use std::alloc::{AllocError, Global};
@@ -36,12 +38,15 @@ pub struct PlainTags {
     pub(super) tags: Vec<String>,
     mappings: Vec<PlainMapping>,
     pub(super) siblings: PlainSiblings,
+    pub(super) parents: PlainParents,
 }
 
 impl PlainTags {
     pub fn new(alloc: Global) -> Result<PlainTags, AllocError> {
         let mut siblings = PlainSiblings::new(alloc);
-        siblings.set_order(0, &[0])?;
+        siblings.orders.set(0, &[0])?;
+        let mut parents = PlainParents::new(alloc);
+        parents.orders.set(0, &[0])?;
         Ok(PlainTags {
             alloc,
             files: Vec::new(alloc),
@@ -49,6 +54,7 @@ impl PlainTags {
             tags: Vec::new(alloc),
             mappings: Vec::new(alloc),
             siblings,
+            parents,
         })
     }
 
@@ -115,7 +121,8 @@ impl PlainTags {
     pub fn add_service(&mut self) -> Result<String, AllocError> {
         let number = self.services;
         self.services = number.wrapping_add(1);
-        self.siblings.set_order(number, &[number])?;
+        self.siblings.orders.set(number, &[number])?;
+        self.parents.orders.set(number, &[number])?;
         format!(in self.alloc; "{{\"service\":{number}}}")
     }
 
@@ -131,7 +138,8 @@ impl PlainTags {
         parents: &[u32],
     ) -> Result<String, AllocError> {
         if self.has_all(&[service]) && self.has_all(siblings) && self.has_all(parents) {
-            self.siblings.set_order(service, siblings)?;
+            self.siblings.orders.set(service, siblings)?;
+            self.parents.orders.set(service, parents)?;
             return format!(in self.alloc; "{{\"service\":{service}}}");
         }
         self.refused("unknown_service")

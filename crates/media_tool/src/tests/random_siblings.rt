@@ -7,18 +7,18 @@ use std::alloc::AllocError;
 
 /// A service and two clean texts, which may be a pair.
 #[derive(Drop)]
-struct PairTexts {
-    service: u32,
-    bad: String,
-    good: String,
+pub(super) struct PairTexts {
+    pub(super) service: u32,
+    pub(super) first: String,
+    pub(super) second: String,
 }
 
 impl RandomTags {
-    fn any_pair(&mut self) -> Result<PairTexts, AllocError> {
+    pub(super) fn any_pair(&mut self) -> Result<PairTexts, AllocError> {
         Ok(PairTexts {
             service: self.service(),
-            bad: common_tag(self.alloc, &mut self.chance)?,
-            good: common_tag(self.alloc, &mut self.chance)?,
+            first: common_tag(self.alloc, &mut self.chance)?,
+            second: common_tag(self.alloc, &mut self.chance)?,
         })
     }
 
@@ -29,8 +29,8 @@ impl RandomTags {
         match self.plain.sibling_at(place) {
             Some((service, bad, good)) => Ok(PairTexts {
                 service,
-                bad: String::from_str(self.alloc, bad)?,
-                good: String::from_str(self.alloc, good)?,
+                first: String::from_str(self.alloc, bad)?,
+                second: String::from_str(self.alloc, good)?,
             }),
             None => self.any_pair(),
         }
@@ -38,19 +38,21 @@ impl RandomTags {
 
     pub fn add_sibling(&mut self) -> Result<(), AllocError> {
         let pair = self.any_pair()?;
-        let bad = spelled(self.alloc, &pair.bad, &mut self.chance)?;
-        let good = spelled(self.alloc, &pair.good, &mut self.chance)?;
-        let reply = self.plain.add_sibling(pair.service, &pair.bad, &pair.good)?;
+        let bad = spelled(self.alloc, &pair.first, &mut self.chance)?;
+        let good = spelled(self.alloc, &pair.second, &mut self.chance)?;
+        let reply = self
+            .plain
+            .add_sibling(pair.service, &pair.first, &pair.second)?;
         self.script.add_sibling(pair.service, &bad, &good, &reply)
     }
 
     pub fn remove_sibling(&mut self) -> Result<(), AllocError> {
         let pair = self.standing_pair()?;
-        let bad = spelled(self.alloc, &pair.bad, &mut self.chance)?;
-        let good = spelled(self.alloc, &pair.good, &mut self.chance)?;
+        let bad = spelled(self.alloc, &pair.first, &mut self.chance)?;
+        let good = spelled(self.alloc, &pair.second, &mut self.chance)?;
         let reply = self
             .plain
-            .remove_sibling(pair.service, &pair.bad, &pair.good)?;
+            .remove_sibling(pair.service, &pair.first, &pair.second)?;
         self.script
             .remove_sibling(pair.service, &bad, &good, &reply)
     }

@@ -22,7 +22,7 @@ const SERVICES: u32 = 3;
 
 const ORDERS: [&[u32]; 7] = [&[], &[0], &[1], &[1, 0], &[2, 0, 1], &[0, 2], &[0, 3]];
 
-const FAULTY: [(&str, &str); 8] = [
+const FAULTY: [(&str, &str); 9] = [
     (
         "{\"do\":\"map\",\"service\":0,\"tag\":\" \\t\",\"file\":0,\"state\":\"current\"}\n",
         r#"{"error":"bad_tag"}"#,
@@ -55,6 +55,10 @@ const FAULTY: [(&str, &str); 8] = [
         "{\"do\":\"remove_sibling\",\"service\":0,\"good\":\"a\"}\n",
         r#"{"error":"not_a_request","field":"bad"}"#,
     ),
+    (
+        "{\"do\":\"add_parent\",\"service\":0,\"child\":\"new\",\"parent\":\"\"}\n",
+        r#"{"error":"bad_tag"}"#,
+    ),
 ];
 
 /// A service, a clean text and a file, which may be mapped to one another.
@@ -86,7 +90,7 @@ impl RandomTags {
 
     // The next line.
     fn ask(&mut self) -> Result<(), AllocError> {
-        match self.chance.below(60) {
+        match self.chance.below(73) {
             0..=2 => self.import(),
             3 => self.mark(false),
             4 => self.mark(true),
@@ -97,7 +101,9 @@ impl RandomTags {
             30..=38 => self.ask_for_mappings(),
             39..=47 => self.add_sibling(),
             48..=51 => self.remove_sibling(),
-            52..=58 => self.ask_for_ideal(),
+            52..=59 => self.ask_for_ideal(),
+            60..=67 => self.add_parent(),
+            68..=71 => self.remove_parent(),
             _ => self.say_faulty(),
         }
     }
@@ -208,7 +214,7 @@ impl RandomTags {
     }
 
     fn say_faulty(&mut self) -> Result<(), AllocError> {
-        let (line, reply) = FAULTY[self.chance.below(8)];
+        let (line, reply) = FAULTY[self.chance.below(9)];
         self.script.say(Line::Text(line), reply)
     }
 
@@ -226,8 +232,11 @@ impl RandomTags {
             30 < tags && 100 < mappings,
             "{mappings} mappings of {tags} tags"
         );
-        let siblings = self.plain.siblings();
-        assert!(rt; 5 < siblings, "{siblings} sibling pairs");
+        let (siblings, parents) = (self.plain.siblings(), self.plain.parents());
+        assert!(rt;
+            5 < siblings && 5 < parents,
+            "{siblings} sibling pairs, {parents} parent pairs"
+        );
         self.plain.ask_all(&mut self.script)
     }
 

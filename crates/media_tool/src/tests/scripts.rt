@@ -3,7 +3,8 @@
 ghost use Rattle.std.specs.Prelude.{◌<◌};
 
 use crate::tests::keepers::session_over;
-use crate::tests::lines::{Line, write_ideal, write_pair};
+use crate::tests::lines::{Line, write_ideal};
+use crate::tests::pair_lines::{PairCommand, write_pair};
 use crate::tests::playing::{Manner, played};
 use media_base::{NoMemory, Status};
 use media_keeper::MemoryKeeper;
@@ -55,6 +56,19 @@ impl Script {
         writeln!(self.replies, "{reply}")
     }
 
+    // The next line is of a pair.
+    fn say_pair(
+        &mut self,
+        command: PairCommand,
+        service: u32,
+        first: &str,
+        second: &str,
+        reply: &str,
+    ) -> Result<(), AllocError> {
+        write_pair(&mut self.input, command, service, first, second)?;
+        writeln!(self.replies, "{reply}")
+    }
+
     /// The next line records a sibling pair.
     pub fn add_sibling(
         &mut self,
@@ -63,8 +77,7 @@ impl Script {
         good: &str,
         reply: &str,
     ) -> Result<(), AllocError> {
-        write_pair(&mut self.input, "add_sibling", service, bad, good)?;
-        writeln!(self.replies, "{reply}")
+        self.say_pair(PairCommand::AddSibling, service, bad, good, reply)
     }
 
     /// The next line removes a sibling pair.
@@ -75,8 +88,29 @@ impl Script {
         good: &str,
         reply: &str,
     ) -> Result<(), AllocError> {
-        write_pair(&mut self.input, "remove_sibling", service, bad, good)?;
-        writeln!(self.replies, "{reply}")
+        self.say_pair(PairCommand::RemoveSibling, service, bad, good, reply)
+    }
+
+    /// The next line records a parent pair.
+    pub fn add_parent(
+        &mut self,
+        service: u32,
+        child: &str,
+        parent: &str,
+        reply: &str,
+    ) -> Result<(), AllocError> {
+        self.say_pair(PairCommand::AddParent, service, child, parent, reply)
+    }
+
+    /// The next line removes a parent pair.
+    pub fn remove_parent(
+        &mut self,
+        service: u32,
+        child: &str,
+        parent: &str,
+        reply: &str,
+    ) -> Result<(), AllocError> {
+        self.say_pair(PairCommand::RemoveParent, service, child, parent, reply)
     }
 
     /// The next line asks for the ideal tag of a tag.

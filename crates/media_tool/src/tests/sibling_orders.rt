@@ -1,7 +1,5 @@
 //! Sessions of five sibling pairs over four tags in two services, in each of their orders, against plain lists.
 
-ghost use Rattle.std.specs.Prelude.{◌<◌};
-
 use crate::tests::lines::Line;
 use crate::tests::plain_tags::PlainTags;
 use crate::tests::playing::Manner;

@@ -10,13 +10,13 @@ use crate::tests::tagging::{
 };
 use std::test::Fail;
 
-const UNKNOWN_PAIR: &str = r#"{"error":"unknown_pair"}"#;
+pub(super) const UNKNOWN_PAIR: &str = r#"{"error":"unknown_pair"}"#;
 
-const A_KNOWN: &str = r#"{"error":"pair_known","good":"a"}"#;
+pub(super) const A_KNOWN: &str = r#"{"error":"pair_known","good":"a"}"#;
 
-const B_KNOWN: &str = r#"{"error":"pair_known","good":"b"}"#;
+pub(super) const B_KNOWN: &str = r#"{"error":"pair_known","good":"b"}"#;
 
-const IDEAL_A: &str = r#"{"ideal":"a","ancestors":[]}"#;
+pub(super) const IDEAL_A: &str = r#"{"ideal":"a","ancestors":[]}"#;
 
 const IDEAL_B: &str = r#"{"ideal":"b","ancestors":[]}"#;
 
