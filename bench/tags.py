@@ -1,11 +1,11 @@
 #!/usr/bin/env python3
-"""Times sibling commands of clusters of ten tags, among few tags and among many.
+"""Times commands of sibling pairs and of parent pairs in clusters of ten tags, among few tags and among many.
 
     bench/tags.py [FEW [MANY]]
 
 Each session maps all tags to one file and records one pair of the last two, so that the tables have all tags.
-Then come rounds over 100 clusters: nine pairs that make a chain of ten tags, and their removals. The time of a
-session without the rounds is taken off. The least time of three runs counts.
+Then come rounds over 100 clusters: nine pairs of one kind that make a chain of ten tags, and their removals. The
+time of a session without the rounds is taken off. The least time of three runs counts.
 """
 import pathlib
 import subprocess
@@ -26,19 +26,23 @@ def mapped(count):
         yield '{"do":"map","service":0,"tag":"t%d","file":0,"state":"current"}\n' % tag
 
 
-def pair(command, bad, good):
-    return '{"do":"%s","service":0,"bad":"t%d","good":"t%d"}\n' % (command, bad, good)
+FIELDS = {"sibling": ("bad", "good"), "parent": ("child", "parent")}
 
 
-def rounds(count):
+def pair(command, kind, first, second):
+    one, other = FIELDS[kind]
+    return '{"do":"%s_%s","service":0,"%s":"t%d","%s":"t%d"}\n' % (command, kind, one, first, other, second)
+
+
+def rounds(count, kind):
     """All pairs of the clusters, which lie apart among the tags."""
     apart = count // CLUSTERS
     for _ in range(ROUNDS):
-        for command in ("add_sibling", "remove_sibling"):
+        for command in ("add", "remove"):
             for cluster in range(CLUSTERS):
                 for tag in range(9):
                     first = cluster * apart + tag
-                    yield pair(command, first, first + 1)
+                    yield pair(command, kind, first, first + 1)
 
 
 def write(lines):
@@ -67,16 +71,16 @@ def session(count, then):
         path.unlink()
 
 
-def measure(count):
-    first = pair("add_sibling", count - 2, count - 1)
+def measure(count, kind):
+    first = pair("add", kind, count - 2, count - 1)
     alone = session(count, [])
     grown = session(count, [first])
-    whole = session(count, [first, *rounds(count)])
+    whole = session(count, [first, *rounds(count, kind)])
     commands = 2 * 9 * CLUSTERS * ROUNDS
     each = (whole - grown) / commands
     print(
-        "%9d tags: %6.2f µs a command, %.3f s for the first pair, %.2f s for the tags"
-        % (count, each * 1e6, grown - alone, alone)
+        "%s, %d tags: %.2f µs a command, %.3f s for the first pair, %.2f s for the tags"
+        % (kind, count, each * 1e6, grown - alone, alone)
     )
     return each
 
@@ -84,9 +88,10 @@ def measure(count):
 def main():
     few = int(sys.argv[1]) if len(sys.argv) > 1 else 1_000
     many = int(sys.argv[2]) if len(sys.argv) > 2 else 1_000_000
-    one = measure(few)
-    other = measure(many)
-    print("among many: %.2f of the time among few" % (other / one))
+    for kind in FIELDS:
+        one = measure(few, kind)
+        other = measure(many, kind)
+        print("%s, among many: %.2f of the time among few" % (kind, other / one))
 
 
 main()
